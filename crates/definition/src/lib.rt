@@ -1,0 +1,1 @@
+// No code: document 01 as definitions, their laws and theorems, in specs/.

@@ -1,0 +1,5 @@
+pub mod Sets
+pub mod Subsets
+pub mod SetLaws
+pub mod SubsetLaws
+pub mod SingletonLaws

@@ -1,0 +1,50 @@
+//! The oracle: the published Rust run on the mill's sheets, and a plain
+//! reference for the whole call beside it. See README.md.
+
+mod boundary;
+mod cases;
+mod compare;
+mod damage;
+mod model;
+mod outcome;
+mod plan;
+mod published;
+mod random;
+mod random_sheets;
+mod reference;
+mod samples;
+mod sheet;
+mod vectors;
+mod walks;
+
+use std::error::Error;
+use std::io::Read;
+use std::path::Path;
+use std::process::ExitCode;
+
+/// The sheet given as words, or else on standard input as bytes.
+fn sheet_bytes(words: &[String]) -> Result<Vec<u8>, Box<dyn Error>> {
+    let mut bytes = Vec::new();
+    if words.is_empty() {
+        std::io::stdin().read_to_end(&mut bytes)?;
+    } else {
+        let words: Vec<u32> = words.iter().map(|word| word.parse()).collect::<Result<_, _>>()?;
+        bytes = sheet::bytes_of(&words);
+    }
+    Ok(bytes)
+}
+
+fn main() -> Result<ExitCode, Box<dyn Error>> {
+    let arguments: Vec<String> = std::env::args().skip(1).collect();
+    match arguments.split_first() {
+        Some((command, [])) if command == "compare" => {
+            return Ok(ExitCode::from(u8::from(compare::compare() > 0)));
+        }
+        Some((command, [folder])) if command == "vectors" => {
+            vectors::write_vectors(Path::new(folder))?;
+        }
+        Some((command, words)) if command == "plan" => plan::print_plan(&sheet_bytes(words)?),
+        _ => return Err("usage: oracle compare | vectors FOLDER | plan [WORD...]".into()),
+    }
+    Ok(ExitCode::SUCCESS)
+}

@@ -1,0 +1,205 @@
+//! Vectors to replay: whole calls, and sheet checks. README.md has the form.
+
+use std::fs;
+use std::io;
+use std::path::Path;
+
+use crate::boundary::{boundary_sheets, overlapping, star};
+use crate::cases::{Case, ample, cases};
+use crate::compare::{WIDE, is_begun};
+use crate::damage::damaged;
+use crate::outcome::{Outcome, answer};
+use crate::published;
+use crate::random::Random;
+use crate::random_sheets::random_sheet;
+use crate::reference::call;
+use crate::reference::check::check;
+use crate::samples::samples;
+use crate::sheet::{INNER, Sheet};
+use crate::walks::each_small_sheet;
+
+const SEED: u64 = 20_261_016;
+/// Cases taken for each random sheet.
+const CASES_EACH: usize = 4;
+const SMALL_SHEETS: usize = 48;
+const MIDDLE_SHEETS: usize = 72;
+const WIDE_SHEETS: usize = 8;
+const DAMAGED_SHEETS: usize = 240;
+
+/// One record: words of 4 and 8 bytes, little-endian, under its length.
+struct Record(Vec<u8>);
+
+impl Record {
+    /// A record that begins with a sheet, filled up with zeros to whole words.
+    fn of_sheet(sheet: &[u8]) -> Self {
+        let mut record = Record(vec![0; 4]);
+        record.words(&[sheet.len() as u32]);
+        record.0.extend(sheet);
+        record.0.resize(record.0.len().next_multiple_of(4), 0);
+        record
+    }
+
+    fn words(&mut self, words: &[u32]) {
+        for word in words {
+            self.0.extend(word.to_le_bytes());
+        }
+    }
+
+    fn longs(&mut self, longs: &[u64]) {
+        for long in longs {
+            self.0.extend(long.to_le_bytes());
+        }
+    }
+
+    fn finish(mut self) -> Vec<u8> {
+        let length = self.0.len() as u32;
+        self.0[..4].copy_from_slice(&length.to_le_bytes());
+        self.0
+    }
+}
+
+fn call_record(sheet: &[u8], case: &Case, outcome: &Outcome) -> Vec<u8> {
+    let lists = &outcome.lists;
+    let mut record = Record::of_sheet(sheet);
+    record.words(&case.lists.map(|length| length as u32));
+    record.words(&[case.limit, outcome.answer]);
+    record.words(&[lists.edges.len(), lists.plans.len(), lists.memo.len()].map(|n| n as u32));
+    record.words(&[outcome.visits, lists.chosen]);
+    for edge in &lists.edges {
+        record.longs(&[edge.left, edge.right]);
+        record.words(&[edge.predicate, edge.source, edge.join_type]);
+    }
+    for plan in &lists.plans {
+        record.longs(&[plan.set]);
+        record.words(&[plan.left, plan.right, plan.lead, plan.kind]);
+        record.longs(&[plan.rows, plan.cost]);
+    }
+    for entry in &lists.memo {
+        record.longs(&[entry.set]);
+        record.words(&[entry.plan]);
+    }
+    record.finish()
+}
+
+/// The call vectors, and counts of what is in them.
+#[derive(Default)]
+struct Calls {
+    records: Vec<Vec<u8>>,
+    answers: [usize; answer::COUNT],
+    with_candidates: usize,
+    unequal: usize,
+    /// Accepted calls that were held to the Rust.
+    held: usize,
+}
+
+impl Calls {
+    fn add(&mut self, sheet: &[u8], case: &Case) {
+        let outcome = call(sheet, &case.lists, case.limit);
+        if outcome.accepted() {
+            self.hold(sheet, case, &outcome);
+        }
+        let lists = &case.lists;
+        let even = |store: &[u64]| store.iter().all(|length| *length == store[0]);
+        self.unequal += usize::from(![&lists[..5], &lists[5..12], &lists[12..]].into_iter().all(even));
+        self.answers[outcome.answer as usize] += 1;
+        self.with_candidates += usize::from(!outcome.lists.candidates().is_empty());
+        self.records.push(call_record(sheet, case, &outcome));
+    }
+
+    /// Holds an accepted call to the Rust, if the Rust can end on its sheet.
+    fn hold(&mut self, bytes: &[u8], case: &Case, outcome: &Outcome) {
+        if call(bytes, &WIDE.lists, WIDE.limit).ended() {
+            let sheet = check(bytes).expect("an accepted sheet");
+            let lists = published::run(&sheet).lists;
+            assert!(is_begun(outcome, &lists, case), "the Rust differs on {:?}", sheet.words());
+            self.held += 1;
+        }
+    }
+
+    /// Adds some of the cases around a sheet's need, the ample one among them.
+    fn around(&mut self, sheet: &[u8], most: usize, random: &mut Random) {
+        let mut left = cases(sheet, ample(), random);
+        let mut taken = Vec::new();
+        while !left.is_empty() && taken.len() < most {
+            let case = left.swap_remove(if taken.is_empty() { 0 } else { random.below(left.len()) });
+            if !taken.contains(&case) {
+                self.add(sheet, &case);
+                taken.push(case);
+            }
+        }
+    }
+}
+
+fn small_sheets(random: &mut Random) -> Vec<Sheet> {
+    let mut all = Vec::new();
+    each_small_sheet(3, 2, &mut |sheet| all.push(sheet.clone()));
+    each_small_sheet(4, 1, &mut |sheet| all.push(sheet.clone()));
+    (0..SMALL_SHEETS).map(|_| all.swap_remove(random.below(all.len()))).collect()
+}
+
+/// Random sheets of at most `leaves` leaves that fit the ample stores.
+fn random_sheets(count: usize, leaves: usize, random: &mut Random) -> Vec<Sheet> {
+    let ends = |sheet: &Sheet| call(&sheet.bytes(), &ample().lists, ample().limit).ended();
+    std::iter::repeat_with(|| random_sheet(leaves, random)).filter(ends).take(count).collect()
+}
+
+fn calls() -> Calls {
+    let mut random = Random::new(SEED);
+    let mut calls = Calls::default();
+    for sample in samples() {
+        calls.around(&sample.sheet.bytes(), usize::MAX, &mut random);
+    }
+    for bounded in boundary_sheets() {
+        calls.add(&bounded.bytes, &ample());
+    }
+    for sheet in small_sheets(&mut random) {
+        calls.add(&sheet.bytes(), &ample());
+    }
+    for sheet in random_sheets(MIDDLE_SHEETS, 7, &mut random) {
+        calls.around(&sheet.bytes(), CASES_EACH, &mut random);
+    }
+    for sheet in random_sheets(WIDE_SHEETS, 12, &mut random) {
+        calls.add(&sheet.bytes(), &ample());
+    }
+    calls.add(&overlapping(9).bytes(), &ample());
+    calls.add(&star(30, INNER).bytes(), &Case { limit: 500, ..ample() });
+    assert!(calls.answers.iter().all(|count| *count > 0), "all answers occur");
+    calls
+}
+
+/// Sheets with the sheet check's answer: 1 to 9, or 0 if it has none of these.
+fn checks() -> Vec<Vec<u8>> {
+    let mut random = Random::new(SEED + 1);
+    let mut sheets: Vec<Vec<u8>> =
+        boundary_sheets().into_iter().map(|bounded| bounded.bytes).collect();
+    for sheet in random_sheets(DAMAGED_SHEETS, 6, &mut random) {
+        sheets.push(damaged(&sheet.bytes(), &mut random));
+    }
+    let record = |sheet: Vec<u8>| {
+        let mut record = Record::of_sheet(&sheet);
+        record.words(&[check(&sheet).err().unwrap_or(0)]);
+        record.finish()
+    };
+    sheets.into_iter().map(record).collect()
+}
+
+/// Writes the records under a line that says how they were made.
+fn write(path: &Path, what: &str, records: &[Vec<u8>]) -> io::Result<()> {
+    let count = records.len();
+    let line = format!("{what}: {count} records, made by oracle/run.sh vectors, seed {SEED}\n");
+    let contents = [line.as_bytes(), &records.concat()].concat();
+    fs::write(path, &contents)?;
+    println!("{}: {count} records, {} bytes", path.display(), contents.len());
+    Ok(())
+}
+
+pub fn write_vectors(folder: &Path) -> io::Result<()> {
+    fs::create_dir_all(folder)?;
+    let calls = calls();
+    write(&folder.join("calls.bin"), "calls", &calls.records)?;
+    println!(
+        "  {} with trials, {} with unequal lists, {} held to the Rust, by answer {:?}",
+        calls.with_candidates, calls.unequal, calls.held, calls.answers
+    );
+    write(&folder.join("checks.bin"), "sheet checks", &checks())
+}
