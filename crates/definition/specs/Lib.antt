@@ -4,4 +4,10 @@ pub mod Question
 pub mod Sheet
 pub mod Tables
 pub mod Hypergraph
+pub mod Connected
+pub mod Edges
 pub mod Cost
+pub mod Walk
+pub mod Search
+pub mod Call
+pub mod Samples
