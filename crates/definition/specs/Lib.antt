@@ -5,6 +5,7 @@ pub mod Sheet
 pub mod Tables
 pub mod Hypergraph
 pub mod Connected
+pub mod Settled
 pub mod Edges
 pub mod Cost
 pub mod Walk

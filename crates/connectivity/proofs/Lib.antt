@@ -1,0 +1,2 @@
+-- Laws that only the proofs of this crate use.
+pub mod Laws
