@@ -9,6 +9,8 @@ pub mod Settled
 pub mod Edges
 pub mod Cost
 pub mod Walk
+pub mod WalkLaws
 pub mod Search
+pub mod OpenSearch
 pub mod Call
 pub mod Samples
