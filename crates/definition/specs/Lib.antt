@@ -10,6 +10,7 @@ pub mod Edges
 pub mod Cost
 pub mod Walk
 pub mod WalkLaws
+pub mod Depth
 pub mod Search
 pub mod OpenSearch
 pub mod Call
