@@ -1,5 +1,5 @@
 -- Document 01, 'Plans and memo': "Rows and cost are f64, each operation rounded once."
-use Prim.Native.Nat.{ℕ, zero, suc, max}
+use Prim.Native.Nat.{ℕ, max}
 use mathlib.Core.Bool.{Bool, true, false}
 use mathlib.Core.List.{List, [], _∷_}
 use lib.IntN.{pos}
@@ -51,10 +51,14 @@ candidateRows kind l r x = capped x
 abbrev pub candidateCost : Estimate → Estimate → Float → Float
 candidateCost l r rows = add binary64 (add binary64 (add binary64 (product l r) rows) (l .cost)) (r .cost)
 
-unfoldable pub candidateEstimate : ℕ → Estimate → Estimate → List ℕ → Estimate
-candidateEstimate kind l r ss =
-    let rows = candidateRows kind l r (filtered (product l r) ss) in
+-- rows and cost of a candidate of this kind, from what is left after the selectivities
+unfoldable pub candidateFrom : ℕ → Estimate → Estimate → Float → Estimate
+candidateFrom kind l r x =
+    let rows = candidateRows kind l r x in
     record { rows = rows; cost = candidateCost l r rows }
+
+abbrev pub candidateEstimate : ℕ → Estimate → Estimate → List ℕ → Estimate
+candidateEstimate kind l r ss = candidateFrom kind l r (filtered (product l r) ss)
 
 -- "A trial replaces the memo's plan only if strictly cheaper."
 abbrev pub cheaper : Estimate → Estimate → Bool

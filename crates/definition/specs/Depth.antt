@@ -30,12 +30,12 @@ unfolding ones
 ones-or =
     bin-ind (λ (a : ℕ). (b : ℕ) → Apart a b → ones (bitOr a b) ≡ ones a + ones b) (λ b h. sym (zero-add (ones b)))
     (λ a ih b h.
-      let r = or-step a b in
-      let low : bitOr a b % 2 ≡ max (a % 2) (b % 2) = omega (arith, r) in
-      let high : bitOr a b / 2 ≡ bitOr (a / 2) (b / 2) = omega (arith, r) in
-      let e : ones (bitOr a b) ≡ max (a % 2) (b % 2) + ones (bitOr (a / 2) (b / 2)) = ones-step (bitOr a b) ∙ ap₂ (λ (x y : ℕ). x + ones y) low high in
-      let z : min (a % 2) (b % 2) ≡ 0 = ap₂ min (sym (bit-zero a)) (sym (bit-zero b)) ∙ h 0 in
-      omega (arith, e, ih (b / 2) (half-apart a b h), ones-step a, ones-step b, z))
+    let r = or-step a b in
+    let low : bitOr a b % 2 ≡ max (a % 2) (b % 2) = omega (arith, r) in
+    let high : bitOr a b / 2 ≡ bitOr (a / 2) (b / 2) = omega (arith, r) in
+    let e : ones (bitOr a b) ≡ max (a % 2) (b % 2) + ones (bitOr (a / 2) (b / 2)) = ones-step (bitOr a b) ∙ ap₂ (λ (x y : ℕ). x + ones y) low high in
+    let z : min (a % 2) (b % 2) ≡ 0 = ap₂ min (sym (bit-zero a)) (sym (bit-zero b)) ∙ h 0 in
+    omega (arith, e, ih (b / 2) (half-apart a b h), ones-step a, ones-step b, z))
 
 ones-zero : (a : ℕ) → ones a ≡ 0 → a ≡ 0
 ones-zero = bin-ind (λ (a : ℕ). ones a ≡ 0 → a ≡ 0) (λ _. refl) (λ a ih e. omega (arith, ones-step a, ih (omega (arith, ones-step a))))
@@ -112,7 +112,7 @@ module _ (es : List Edge) (n : ℕ) (few : n ≤ 64) (below : All (Below n) es) 
         let q = neighborhood es s x in
         F-suc (suc d) s x st
         ∙ levels (λ t u. F (suc d) (bitOr s t) (bitOr x q) (visit u)) (λ t u. F d (bitOr s t) (bitOr x q) (visit u)) (eq-zero-or-pos q)
-          (λ p t u. level-depth d (bitOr s t) (bitOr x q) (visit u) (or-lt n x q h (nbr-lt s x)) (wider s x d p f))
+        (λ p t u. level-depth d (bitOr s t) (bitOr x q) (visit u) (or-lt n x q h (nbr-lt s x)) (wider s x d p f))
         ∙ sym (F-suc d s x st)
       where
         levels : (f g : ℕ → S → S) → (neighborhood es s x ≡ 0) ⊎ (0 < neighborhood es s x) → (0 < neighborhood es s x → (t : ℕ) (u : S) → f t u ≡ g t u)
@@ -142,6 +142,7 @@ module _ (es : List Edge) (n : ℕ) (few : n ≤ 64) (below : All (Below n) es) 
     where
       l : Lowest 64 s (lowest s)
       l = lowest-of s (p .0) (lt-of-lt-of-le (p .1) (pow-mono few))
+
       go : Dec (n ≤ lowest s) → lowest s < n
       go (yes h) = absurd (let z : bit s (lowest s) ≡ 0 = bit-high n s (lowest s) (p .1) h in omega (arith, l .has))
       go (no h) = lt-of-not-le h

@@ -88,9 +88,9 @@ added-same s t a b p q r =
       tried = ap (λ (l : List Pair). l ++ (record { left = a; right = b } ∷ [])) (r .tried);
       plans = length-append (s .plans) (p ∷ []) ∙ ap (λ (n : ℕ). n + 1) (r .plans) ∙ sym (length-append (t .plans) (q ∷ []));
       memo =
-        sets-noted s (bitOr a b) _ p (find (s .memo) (bitOr a b))
-        ∙ ap₂ (λ (x : Bool) (l : List ℕ). elim x [ true ↦ l | false ↦ l ++ (bitOr a b ∷ []) ]) k (r .memo)
-        ∙ sym (sets-noted t (bitOr a b) _ q (find (t .memo) (bitOr a b)));
+          sets-noted s (bitOr a b) _ p (find (s .memo) (bitOr a b))
+          ∙ ap₂ (λ (x : Bool) (l : List ℕ). elim x [ true ↦ l | false ↦ l ++ (bitOr a b ∷ []) ]) k (r .memo)
+          ∙ sym (sets-noted t (bitOr a b) _ q (find (t .memo) (bitOr a b)));
       visits = r .visits;
       stop = refl;
     }

@@ -14,7 +14,7 @@ use Rattle.definition.specs.Tables.{typeOf, assoc, l-asscom, r-asscom}
 use Rattle.definition.specs.Hypergraph.{Edge, none32, hasEdge, connectingFrom, beyond, neighborhood, anyPredicate, selectivitiesOf}
 use Rattle.definition.specs.Connected.{oneClass, met, merge, merges, round, rounds, connected}
 use Rattle.definition.specs.Edges.{buildHypergraph, buildFrom, buildItem, joinItem, crossItem, leafItem, innerEdges, otherEdges, sidesFor, widen, sideSet, holders, holder, edgeCount}
-use Rattle.definition.specs.Cost.{whole, filtered, candidateEstimate}
+use Rattle.definition.specs.Cost.{whole, filtered, candidateFrom}
 use Rattle.definition.specs.Walk.{enumerateCmpRec, emitCsg, enumerateCsgRec, solveFrom}
 use Rattle.definition.specs.Search.{Plan, Pair, find, replace, visit, candidateKind, candidate, noted, joined, attempt, leafPlans, leafEntries, start, search}
 use Rattle.definition.specs.Call.{Rooms, Outcome, leavesOf, searched, callQuestion, call}
@@ -54,7 +54,7 @@ seen o =
     }
 
 unfoldable pub outcome : Row → Seen
-unfolding trailingZeros bit singleton lowest allBelow upToLowest doubled subsetsOf nonEmptySubsets singletonsBelow singletons tabulate concatMap member leafCount endsWithOne word firstFailing questionOf questionAnswer sheetAnswer typeOf assoc l-asscom r-asscom hasEdge connectingFrom beyond neighborhood anyPredicate selectivitiesOf oneClass met merge merges round rounds connected buildHypergraph buildFrom buildItem joinItem crossItem leafItem innerEdges otherEdges sidesFor widen sideSet holders holder edgeCount filtered candidateEstimate enumerateCmpRec emitCsg enumerateCsgRec solveFrom find replace visit candidateKind candidate noted joined attempt leafPlans leafEntries start search leavesOf searched callQuestion call mul add div lt ofInt
+unfolding trailingZeros bit singleton lowest allBelow upToLowest doubled subsetsOf nonEmptySubsets singletonsBelow singletons tabulate concatMap member leafCount endsWithOne word firstFailing questionOf questionAnswer sheetAnswer typeOf assoc l-asscom r-asscom hasEdge connectingFrom beyond neighborhood anyPredicate selectivitiesOf oneClass met merge merges round rounds connected buildHypergraph buildFrom buildItem joinItem crossItem leafItem innerEdges otherEdges sidesFor widen sideSet holders holder edgeCount filtered candidateFrom enumerateCmpRec emitCsg enumerateCsgRec solveFrom find replace visit candidateKind candidate noted joined attempt leafPlans leafEntries start search leavesOf searched callQuestion call mul add div lt ofInt
 outcome r = seen (call (concatMap bytes (r .words)) (r .rooms) (r .limit))
 
 abbrev rooms : ℕ → ℕ → ℕ → Rooms

@@ -92,10 +92,10 @@ unfoldable pub visit : Input → State → State
 visit i st =
     elim (eqb (st .stop) 0) [
       | true ↦
-        elim (ltb (st .visits) (i .limit)) [
-          | true ↦ record { tried = st .tried; plans = st .plans; memo = st .memo; visits = suc (st .visits); stop = 0 }
-          | false ↦ stopped st visitsSpent
-        ]
+          elim (ltb (st .visits) (i .limit)) [
+            | true ↦ record { tried = st .tried; plans = st .plans; memo = st .memo; visits = suc (st .visits); stop = 0 }
+            | false ↦ stopped st visitsSpent
+          ]
       | false ↦ st
     ]
 

@@ -149,8 +149,8 @@ module _ (es : List Edge) (sided : All Sided es)
       let h = in-left s1 (upToLowest s1) in
       each-rel R (λ u. In u n) _ _
       (λ u m v w q.
-        let a : Apart s1 u = apart-in s1 x n u h (neighborhood-apart es sided s1 x) m in
-        cmp-rel d s1 u x h a _ _ (elim-rel R (hasEdge es s1 u) (hasEdge es s1 u) refl (r-attempt s1 u a v w q) q))
+      let a : Apart s1 u = apart-in s1 x n u h (neighborhood-apart es sided s1 x) m in
+      cmp-rel d s1 u x h a _ _ (elim-rel R (hasEdge es s1 u) (hasEdge es s1 u) refl (r-attempt s1 u a v w q) q))
       (singletons n) (singletons-in n) s t r
 
   emitKept-rel : (d c : ℕ) (s : S) (t : S') → R s t → R (emitKept es S kept visit attempt d c s) (emitKept es S' kept' visit' attempt' d c t)

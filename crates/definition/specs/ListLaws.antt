@@ -1,0 +1,62 @@
+-- Laws of the lists of Lists.antt. Assumes nothing.
+use mathlib.Core.Path.{_≡_, refl, sym, ap, ap₂, _∙_, subst}
+use mathlib.Core.Logic.{inl, inr}
+use mathlib.Core.List.{List, [], _∷_, _++_, map, map-append}
+use Prim.Native.Nat.{ℕ, zero, suc, _+_, _≤_, _<_}
+use native.Mathlib.Nat.{le-refl, le-trans, le-suc, eq-or-lt-of-le, le-of-suc-le-suc, not-suc-le-zero}
+use native.Mathlib.Numerals.{add-one}
+use native.Mathlib.Omega.{arith}
+use lib.ListN.{length, getD, take, drop, length-append}
+use lib.Seq.{take-suc, drop-append-le, drop-length}
+use Rattle.definition.specs.Lists.{tabulate}
+
+module _ {A : Type 0} where
+  pub length-tabulate : (n : ℕ) (f : ℕ → A) → length (tabulate n f) ≡ n
+  unfolding tabulate
+  length-tabulate zero f = refl
+  length-tabulate (suc n) f = length-append (tabulate n f) (f n ∷ []) ∙ ap (λ (k : ℕ). k + 1) (length-tabulate n f) ∙ add-one n
+
+  -- one member more, the others unchanged
+  pub tabulate-same : (n : ℕ) (f g : ℕ → A) → ((i : ℕ) → i < n → f i ≡ g i) → tabulate n f ≡ tabulate n g
+  unfolding tabulate
+  tabulate-same zero f g e = refl
+  tabulate-same (suc n) f g e = ap₂ (λ (l : List A) (x : A). l ++ (x ∷ [])) (tabulate-same n f g (λ i h. e i (le-trans h (le-suc n)))) (e n (le-refl (suc n)))
+
+  pub tabulate-more : (n : ℕ) (f g : ℕ → A) → ((i : ℕ) → i < n → f i ≡ g i) → tabulate (n + 1) f ≡ tabulate n g ++ (f n ∷ [])
+  unfolding tabulate
+  tabulate-more n f g e = ap (λ (k : ℕ). tabulate k f) (add-one n) ∙ ap (λ (l : List A). l ++ (f n ∷ [])) (tabulate-same n f g e)
+
+  -- the members from i on
+  pub tabulate-at : (n : ℕ) (f : ℕ → A) (i : ℕ) → i < n → drop i (tabulate n f) ≡ f i ∷ drop (suc i) (tabulate n f)
+  unfolding tabulate
+  tabulate-at zero f i h = absurd (not-suc-le-zero h)
+  tabulate-at (suc n) f i h =
+      elim (eq-or-lt-of-le (le-of-suc-le-suc h)) [
+        | inl e ↦ last i e
+        | inr l ↦
+            drop-append-le i (tabulate n f) (f n ∷ []) (omega (arith, length-tabulate n f)) ∙ ap (λ (k : List A). k ++ (f n ∷ [])) (tabulate-at n f i l)
+            ∙ ap (λ (k : List A). f i ∷ k) (sym (drop-append-le (suc i) (tabulate n f) (f n ∷ []) (omega (arith, length-tabulate n f))))
+      ]
+    where
+      last : (i : ℕ) → i ≡ n → drop i (tabulate n f ++ (f n ∷ [])) ≡ f i ∷ drop (suc i) (tabulate n f ++ (f n ∷ []))
+      last i e =
+          subst (λ (k : ℕ). drop k (tabulate n f ++ (f n ∷ [])) ≡ f k ∷ drop (suc k) (tabulate n f ++ (f n ∷ []))) (sym e)
+          (subst (λ (k : ℕ). drop k (tabulate n f ++ (f n ∷ [])) ≡ f n ∷ drop (suc k) (tabulate n f ++ (f n ∷ []))) (length-tabulate n f) (seam (tabulate n f) (f n)))
+        where
+          seam : (xs : List A) (y : A) → drop (length xs) (xs ++ (y ∷ [])) ≡ y ∷ drop (suc (length xs)) (xs ++ (y ∷ []))
+          seam [] y = refl
+          seam (x ∷ xs) y = seam xs y
+
+  pub tabulate-end : (n : ℕ) (f : ℕ → A) → drop n (tabulate n f) ≡ []
+  tabulate-end n f = ap (λ (k : ℕ). drop k (tabulate n f)) (sym (length-tabulate n f)) ∙ drop-length (tabulate n f)
+
+-- a function of each member
+pub map-tabulate : {A B : Type 0} (h : A → B) (n : ℕ) (f : ℕ → A) → map h (tabulate n f) ≡ tabulate n (λ i. h (f i))
+unfolding tabulate
+map-tabulate h zero f = refl
+map-tabulate h (suc n) f = map-append h (tabulate n f) (f n ∷ []) ∙ ap (λ l. l ++ (h (f n) ∷ [])) (map-tabulate h n f)
+
+pub tabulate-take : (n : ℕ) (l : List ℕ) → n ≤ length l → tabulate n (λ i. getD l i 0) ≡ take n l
+unfolding tabulate
+tabulate-take zero l h = refl
+tabulate-take (suc n) l h = ap (λ k. k ++ (getD l n 0 ∷ [])) (tabulate-take n l (le-trans (le-suc n) h)) ∙ sym (take-suc l n 0 h)
