@@ -11,7 +11,13 @@ compare)
     "$here/target/oracle-counted" compare
     ;;
 vectors)
-    "$here/target/oracle" vectors "${2:-$here/vectors}"
+    folder=${2:-$here/vectors}
+    "$here/target/oracle" vectors "$folder"
+    # The counted copy writes the same, and holds the looks in it to its own.
+    "$here/target/oracle-counted" vectors "$here/target/vectors" >/dev/null
+    for file in calls.bin checks.bin; do
+        cmp "$folder/$file" "$here/target/vectors/$file"
+    done
     ;;
 plan)
     "$here/target/oracle" "$@"

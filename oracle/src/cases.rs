@@ -13,6 +13,14 @@ pub struct Case {
     pub limit: u32,
 }
 
+impl Case {
+    /// Whether a store has lists of different lengths.
+    pub fn is_unequal(&self) -> bool {
+        let stores = [&self.lists[..5], &self.lists[5..12], &self.lists[12..]];
+        stores.iter().any(|store| store.iter().any(|length| *length != store[0]))
+    }
+}
+
 /// Lists that are equally long within each store.
 pub fn even_lists(edges: usize, plans: usize, memo: usize) -> ListLengths {
     let length = |list| match list {
@@ -55,10 +63,8 @@ impl Need {
 
     /// Stores exactly full and one short.
     fn stores(&self) -> Vec<Case> {
-        let stores = |edges, plans, memo| Case {
-            lists: even_lists(edges, plans, memo),
-            limit: self.visits,
-        };
+        let stores =
+            |edges, plans, memo| Case { lists: even_lists(edges, plans, memo), limit: self.visits };
         let mut cases = vec![self.exact(), stores(self.edges, self.leaves, self.leaves)];
         if self.edges > 0 {
             cases.push(stores(self.edges - 1, self.plans, self.memo));
@@ -75,7 +81,7 @@ impl Need {
 
     fn limits(&self, random: &mut Random) -> Vec<Case> {
         let limit = |limit| Case { limit, ..self.exact() };
-        let mut cases = vec![limit(0)];
+        let mut cases = vec![limit(0), limit(u32::MAX)];
         if self.visits > 0 {
             cases.push(limit(self.visits - 1));
             cases.push(limit(random.below(self.visits as usize) as u32));
@@ -111,7 +117,7 @@ impl Need {
 }
 
 /// Cases around what an accepted sheet needs within the case `within`. A
-/// refused sheet has that case alone.
+/// refused sheet has that case, and one without stores and visits.
 pub fn cases(bytes: &[u8], within: Case, random: &mut Random) -> Vec<Case> {
     let outcome = call(bytes, &within.lists, within.limit);
     let mut cases = vec![within];
@@ -121,6 +127,8 @@ pub fn cases(bytes: &[u8], within: Case, random: &mut Random) -> Vec<Case> {
         cases.extend(need.limits(random));
         cases.extend(need.unequal(random));
         cases.push(need.midway(random));
+    } else {
+        cases.push(Case { lists: [0; 14], limit: 0 });
     }
     cases
 }

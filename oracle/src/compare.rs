@@ -6,19 +6,19 @@ use optd_core::hypergraph;
 
 use crate::boundary::{boundary_sheets, chain, overlapping, star};
 use crate::cases::{Case, ample, cases};
-use crate::outcome::answer::{FULL_HOPPER, FULL_SHELF, SPENT_SHIFT};
-use crate::outcome::{Lists, MemoEntry, Outcome, Plan};
-use crate::published::{self, TYPES};
+use crate::outcome::answer::{FULL_HOPPER, FULL_SHELF, SMALL_CRATE, SPENT_SHIFT};
+use crate::outcome::{MemoEntry, Outcome, Plan};
+use crate::published::{self, Published, TYPES};
 use crate::random::Random;
 use crate::random_sheets::random_sheet;
 use crate::reference::check::check;
 use crate::reference::{call, conflict};
 use crate::samples::samples;
 use crate::sheet::{CROSS_PRODUCT, INNER, NONE, Sheet};
-use crate::walks::each_small_sheet;
+use crate::walks::{Small, each_small_sheet};
 
 const SEED: u64 = 429;
-const RANDOM_SHEETS: usize = 30_000;
+const RANDOM_SHEETS: usize = 60_000;
 const SAMPLED_SHEETS: usize = 2_000;
 
 /// Room for every sheet that is compared. The Rust has no limit of visits, so
@@ -27,90 +27,132 @@ pub const WIDE: Case = Case { lists: [1 << 24; 14], limit: 30_000 };
 
 /// Counts of one part of the comparison, or of all.
 #[derive(Default)]
-pub struct Tally {
-    pub sheets: usize,
-    pub with_candidates: usize,
-    pub passed_over: usize,
-    pub calls: usize,
-    pub differences: usize,
+struct Tally {
+    sheets: usize,
+    with_candidates: usize,
+    /// Sheets that pass the limit of visits.
+    passed_over: usize,
+    /// Checks other than of a whole sheet.
+    others: usize,
+    differences: usize,
 }
 
 impl Tally {
-    /// Counts a check; what does not hold is named with the sheet's words.
-    fn check(&mut self, holds: bool, what: &str, sheet: &Sheet) {
+    /// What does not hold is counted, and named with the sheet's words.
+    fn hold(&mut self, holds: bool, what: &str, sheet: &Sheet) {
         if !holds {
             self.differences += 1;
             eprintln!("difference: {what}: {:?}", sheet.words());
         }
     }
 
-    /// Holds the reference to the Rust where the search ends within `case`.
-    fn sheet(&mut self, sheet: &Sheet, case: &Case) {
+    fn hold_other(&mut self, holds: bool, what: &str, sheet: &Sheet) {
+        self.others += 1;
+        self.hold(holds, what, sheet);
+    }
+
+    /// Holds the reference to the Rust where the search ends within `case`,
+    /// and gives what the Rust made.
+    fn sheet(&mut self, sheet: &Sheet, case: &Case) -> Option<Published> {
         let outcome = call(&sheet.bytes(), &case.lists, case.limit);
         if !outcome.ended() {
             self.passed_over += 1;
-            return;
+            return None;
         }
         self.sheets += 1;
         self.with_candidates += usize::from(!outcome.lists.candidates().is_empty());
         let published = published::run(sheet);
-        self.check(outcome.lists == published.lists, "edges, plans, memo or chosen plan", sheet);
+        let same = outcome.lists == published.lists;
+        self.hold(same, "edges, plans, memo or chosen plan", sheet);
         if cfg!(counted) {
-            self.check(u64::from(outcome.visits) == published.visits, "visits", sheet);
+            self.hold(u64::from(outcome.visits) == published.visits, "visits", sheet);
         }
+        Some(published)
     }
 
     /// Holds calls with stores and limits around the sheet's need to the Rust.
-    fn stopped_calls(&mut self, sheet: &Sheet, random: &mut Random) {
-        let bytes = sheet.bytes();
-        if !call(&bytes, &WIDE.lists, WIDE.limit).ended() {
+    fn other_calls(&mut self, sheet: &Sheet, random: &mut Random) {
+        let Some(published) = self.sheet(sheet, &WIDE) else {
             return;
-        }
-        let lists = published::run(sheet).lists;
+        };
+        let bytes = sheet.bytes();
         for case in cases(&bytes, WIDE, random) {
-            self.calls += 1;
             let outcome = call(&bytes, &case.lists, case.limit);
-            let holds = !outcome.accepted() || is_begun(&outcome, &lists, &case);
-            self.check(holds, "a call with other stores or limit", sheet);
+            let holds = follows(&outcome, &published, &case);
+            self.hold_other(holds, "a call with other stores or limit", sheet);
         }
     }
 
     fn add(&mut self, part: &str, other: Tally) {
         println!(
-            "{part}: {} sheets, {} with candidates, {} passed over, {} calls, {} differences",
-            other.sheets, other.with_candidates, other.passed_over, other.calls, other.differences
+            "{part}: {} sheets, {} with trials, {} passed over, {} other checks, {} differences",
+            other.sheets, other.with_candidates, other.passed_over, other.others, other.differences
         );
         self.sheets += other.sheets;
         self.with_candidates += other.with_candidates;
-        self.passed_over += other.passed_over;
-        self.calls += other.calls;
         self.differences += other.differences;
     }
 }
 
-/// Whether an outcome is the beginning of the whole `lists`, stopped for the
+/// Whether lists have room for so many entries.
+fn room(lists: &[u64], entries: usize) -> bool {
+    lists.iter().all(|length| *length >= entries as u64)
+}
+
+/// Whether the outcome of an accepted sheet follows from what the Rust made,
+/// and from the stores and the limit.
+pub fn follows(outcome: &Outcome, published: &Published, case: &Case) -> bool {
+    let leaves = published.lists.leaves();
+    let large = room(&case.lists[..5], published.lists.edges.len())
+        && room(&case.lists[5..12], leaves)
+        && room(&case.lists[12..], leaves);
+    if large {
+        is_begun(outcome, published, case)
+    } else {
+        *outcome == Outcome::refused(SMALL_CRATE)
+    }
+}
+
+/// Whether an outcome is the beginning of what the Rust made, stopped for the
 /// reason that it answers.
-pub fn is_begun(outcome: &Outcome, lists: &Lists, case: &Case) -> bool {
-    let made = &outcome.lists;
-    let next = lists.plans.get(made.plans.len());
-    let plan_store = case.lists[5..12].iter().min().copied();
-    let memo_store = case.lists[12..].iter().min().copied();
+fn is_begun(outcome: &Outcome, published: &Published, case: &Case) -> bool {
+    let (made, whole) = (&outcome.lists, &published.lists);
+    let (plans, memo) = (&case.lists[5..12], &case.lists[12..]);
+    let next = whole.plans.get(made.plans.len());
+    let plans_full = !room(plans, made.plans.len() + 1);
+    let memo_full = !room(memo, made.memo.len() + 1);
     let reason = match outcome.answer {
-        FULL_HOPPER => next.is_some() && plan_store == Some(made.plans.len() as u64),
+        FULL_HOPPER => next.is_some() && plans_full,
         FULL_SHELF => {
-            next.is_some_and(|next| made.memo.iter().all(|entry| entry.set != next.set))
-                && plan_store > Some(made.plans.len() as u64)
-                && memo_store == Some(made.memo.len() as u64)
+            let new = |next: &Plan| made.memo.iter().all(|entry| entry.set != next.set);
+            next.is_some_and(new) && !plans_full && memo_full
         }
         SPENT_SHIFT => outcome.visits == case.limit,
-        _ => next.is_none() && made.chosen == lists.chosen,
+        _ => next.is_none() && made.chosen == whole.chosen,
     };
     reason
         && (outcome.ended() || made.chosen == NONE)
+        && (room(plans, made.plans.len()) && room(memo, made.memo.len()))
         && outcome.visits <= case.limit
-        && made.edges == lists.edges
-        && lists.plans.starts_with(&made.plans)
+        && made.edges == whole.edges
+        && whole.plans.starts_with(&made.plans)
         && made.memo == memo_of(&made.plans)
+        && (!cfg!(counted) || visits_hold(outcome, published))
+}
+
+/// Whether the visits are those that the counted copy made until the stop.
+fn visits_hold(outcome: &Outcome, published: &Published) -> bool {
+    let visits = u64::from(outcome.visits);
+    let made = outcome.lists.plans.len();
+    let before_next = published.visits_before.get(made).copied();
+    match outcome.answer {
+        FULL_HOPPER | FULL_SHELF => before_next == Some(visits),
+        SPENT_SHIFT => {
+            let before_last = made.checked_sub(1).map_or(0, |last| published.visits_before[last]);
+            before_last <= visits && visits < before_next.unwrap_or(published.visits)
+        }
+        _ => visits == published.visits,
+    }
 }
 
 /// Each set with the earliest of its least costly plans, sets in order of
@@ -136,37 +178,50 @@ fn tables() -> Tally {
     let mut tally = Tally::default();
     for (a, first) in (0..).zip(TYPES) {
         for (b, second) in (0..).zip(TYPES) {
-            let same = conflict::assoc(a, b) == hypergraph::assoc(first, second)
-                && conflict::l_asscom(a, b) == hypergraph::l_asscom(first, second)
-                && conflict::r_asscom(a, b) == hypergraph::r_asscom(first, second);
-            tally.check(same, &format!("conflict tables at {a}, {b}"), &Sheet::default());
+            let cells = [
+                conflict::assoc(a, b) == hypergraph::assoc(first, second),
+                conflict::l_asscom(a, b) == hypergraph::l_asscom(first, second),
+                conflict::r_asscom(a, b) == hypergraph::r_asscom(first, second),
+            ];
+            for same in cells {
+                tally.hold_other(same, &format!("conflict table at {a}, {b}"), &Sheet::default());
+            }
         }
     }
     tally
 }
 
+/// Document 01's samples: what it says of them, and the Rust.
 fn sample_sheets() -> Tally {
     let mut tally = Tally::default();
     for sample in samples() {
         let outcome = call(&sample.sheet.bytes(), &WIDE.lists, sample.limit);
-        tally.check((sample.holds)(&outcome), sample.name, &sample.sheet);
+        tally.hold_other((sample.holds)(&outcome), sample.name, &sample.sheet);
         tally.sheet(&sample.sheet, &WIDE);
     }
     tally
 }
 
-/// Boundary sheets get the answer written beside them; those that end go to
-/// the Rust too.
+/// Boundary sheets get the answer written beside them, a refusal also without
+/// stores; those that end go to the Rust too.
 fn boundary() -> Tally {
     let mut tally = Tally::default();
     for bounded in boundary_sheets() {
         let outcome = call(&bounded.bytes, &ample().lists, ample().limit);
+        let without_stores = call(&bounded.bytes, &[0; 14], 0);
         let sheet = check(&bounded.bytes).unwrap_or_default();
-        tally.check(outcome.answer == bounded.answer, bounded.name, &sheet);
+        let holds = outcome.answer == bounded.answer
+            && (outcome.accepted() || without_stores.answer == bounded.answer);
+        tally.hold_other(holds, bounded.name, &sheet);
         if outcome.ended() {
             tally.sheet(&sheet, &ample());
         }
     }
+    let crowded = chain(65, 1, INNER);
+    std::panic::set_hook(Box::new(|_| {}));
+    let panics = std::panic::catch_unwind(|| published::run(&crowded)).is_err();
+    let _ = std::panic::take_hook();
+    tally.hold_other(panics, "the Rust panics at a 65th leaf", &crowded);
     tally
 }
 
@@ -187,8 +242,12 @@ fn large() -> Tally {
 
 fn small() -> Tally {
     let mut tally = Tally::default();
-    for (leaves, most_predicates) in [(1, 2), (2, 3), (3, 2), (4, 1)] {
-        each_small_sheet(leaves, most_predicates, &mut |sheet| tally.sheet(sheet, &WIDE));
+    for (leaves, most_predicates, step) in [(1, 0, 1), (2, 3, 1), (3, 2, 1), (4, 1, 1), (4, 2, 101)]
+    {
+        let small = Small { leaves, most_predicates, step };
+        each_small_sheet(&small, &mut |sheet| {
+            tally.sheet(sheet, &WIDE);
+        });
     }
     tally
 }
@@ -203,12 +262,12 @@ fn random() -> Tally {
     tally
 }
 
-fn stopped() -> Tally {
+fn stores_and_limits() -> Tally {
     let mut tally = Tally::default();
     let mut random = Random::new(SEED + 1);
     for _ in 0..SAMPLED_SHEETS {
         let sheet = random_sheet(8, &mut random);
-        tally.stopped_calls(&sheet, &mut random);
+        tally.other_calls(&sheet, &mut random);
     }
     tally
 }
@@ -223,7 +282,7 @@ pub fn compare() -> usize {
         ("large sheets", large),
         ("all small sheets", small),
         ("random sheets", random),
-        ("other stores and limits", stopped),
+        ("other stores and limits", stores_and_limits),
     ];
     let rust = if cfg!(counted) { "the counted copy, visits too" } else { "the unchanged Rust" };
     println!("reference and {rust}:");

@@ -1,9 +1,9 @@
 //! The mill's cost model as optd's `CostModel`: document 01's rows and cost.
 
-use optd_core::analysis::AnalysisContext;
+use optd_core::analysis::{AnalysisContext, Costed};
 use optd_core::cost::CostModel;
 use optd_core::optimize::{OptimizeError, OptimizeResult};
-use optd_core::{Expr, ExprData, NaryOp, Operator, OperatorData, QueryContext};
+use optd_core::{Expr, ExprData, NaryOp, Operator, OperatorData, QueryContext, visits};
 
 use crate::sheet::{FULL_SELECTIVITY, MAX_ROWS, Sheet};
 
@@ -38,7 +38,8 @@ impl MillModel {
         analyses: &mut AnalysisContext,
     ) -> f64 {
         let pairs = analyses.rows[&outer] * analyses.rows[&inner];
-        let kept = predicates.iter().fold(pairs, |rows, predicate| rows * self.selectivity(*predicate));
+        let kept =
+            predicates.iter().fold(pairs, |rows, predicate| rows * self.selectivity(*predicate));
         let rows = if kept > MAX_ROWS { MAX_ROWS } else { kept };
         analyses.rows.insert(candidate, rows);
         pairs + rows
@@ -131,7 +132,7 @@ impl CostModel for Noting {
         analyses: &mut AnalysisContext,
     ) -> OptimizeResult<f64> {
         let total = self.0.total_cost_from_children(op, child_costs, ctx, analyses)?;
-        analyses.costed.push((op, total));
+        analyses.costed.push(Costed { operator: op, total, visits: visits::counted() });
         Ok(total)
     }
 }

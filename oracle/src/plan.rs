@@ -22,7 +22,9 @@ fn print_answer(outcome: &Outcome) {
     let Lists { edges, plans, memo, chosen } = &outcome.lists;
     let Outcome { answer, visits, .. } = outcome;
     let (edges, plans, memo) = (edges.len(), plans.len(), memo.len());
-    println!("answer {answer} edges {edges} plans {plans} memo {memo} looks {visits} chosen {chosen}");
+    println!(
+        "answer {answer} edges {edges} plans {plans} memo {memo} looks {visits} chosen {chosen}"
+    );
 }
 
 fn print_lists(lists: &Lists) {

@@ -8,16 +8,18 @@ use optd_core::hypergraph::{HyperedgeJoinType, QueryHypergraph};
 use optd_core::optimize::join_ordering::{Solved, solve_hypergraph};
 use optd_core::{
     Column, ColumnData, CrossProduct, Expr, ExprData, Join, JoinType, NaryOp, Operator,
-    OperatorData, QueryContext, Scan, build_hypergraph, visits,
+    OperatorData, QueryContext, Relation, Scan, build_hypergraph, visits,
 };
 
 use crate::model::{MillModel, Noting};
 use crate::outcome::{Edge, Lists, MemoEntry, Plan};
 use crate::sheet::{CROSS_PRODUCT, Item, LEAF, NONE, Sheet};
 
-/// The lists, and the visits if the crate below counts them (else 0).
+/// The lists; and, if the crate below counts visits (else 0), how many came
+/// before each plan, and all.
 pub struct Published {
     pub lists: Lists,
+    pub visits_before: Vec<u64>,
     pub visits: u64,
 }
 
@@ -29,17 +31,20 @@ pub fn run(sheet: &Sheet) -> Published {
         None => QueryHypergraph { nodes: vec![], edges: vec![] },
     };
     let model = Noting(MillModel::new(sheet, sheet.columns.len()));
-    visits::take();
+    visits::reset();
     let solved = solve_hypergraph(&mut query, &mut analyses, &graph, &model)
         .expect("the model covers every operator made");
-    let visits = visits::take();
     assert_eq!(
         analyses.costed.len(),
         query.operator_count() - sheet.items.len() + graph.nodes.len(),
         "one note for each leaf and for each operator that the search made"
     );
     let reading = Reading { query: &query, graph: &graph, model: &model.0, analyses: &analyses };
-    Published { lists: reading.lists(solved), visits }
+    Published {
+        lists: reading.lists(solved),
+        visits_before: analyses.costed.iter().map(|note| note.visits).collect(),
+        visits: visits::counted(),
+    }
 }
 
 /// The sheet as a query: operator n is item n, expression n the sheet's n-th
@@ -158,7 +163,7 @@ impl Reading<'_> {
     fn lists(&self, solved: Solved<f64>) -> Lists {
         let costed = &self.analyses.costed;
         let numbers: HashMap<Operator, u32> =
-            (costed.iter().zip(0..)).map(|((operator, _), number)| (*operator, number)).collect();
+            (costed.iter().zip(0..)).map(|(note, number)| (note.operator, number)).collect();
         let plans = self.plans(&numbers);
         let memo = memo(&plans, &solved, &numbers);
         let chosen = solved.chosen.map_or(NONE, |root| numbers[&root]);
@@ -186,24 +191,26 @@ impl Reading<'_> {
     /// candidates (document 01: trials).
     fn plans(&self, numbers: &HashMap<Operator, u32>) -> Vec<Plan> {
         let mut plans: Vec<Plan> = Vec::new();
-        for (operator, cost) in &self.analyses.costed {
-            let data = operator.get(self.query);
-            let (left, right) = match data {
-                OperatorData::Join(join) => (numbers[&join.outer], numbers[&join.inner]),
-                OperatorData::CrossProduct(product) => {
-                    (numbers[&product.outer], numbers[&product.inner])
+        for note in &self.analyses.costed {
+            let data = note.operator.get(self.query);
+            let number = plans.len();
+            let (left, right, set, lead) = match data.inputs()[..] {
+                [outer, inner] => {
+                    let (left, right) = (numbers[&outer], numbers[&inner]);
+                    let (a, b) = (plans[left as usize].set, plans[right as usize].set);
+                    let lead = connecting_edges(a, b, self.graph)[0] as u32;
+                    (left, right, a | b, lead)
                 }
-                _ => (plans.len() as u32, plans.len() as u32),
+                _ => {
+                    let leaf = self.graph.nodes[number].root;
+                    assert_eq!(leaf, note.operator, "plan n is leaf n");
+                    (number as u32, number as u32, 1 << number, NONE)
+                }
             };
-            let (set, lead) = if kind(data) == LEAF {
-                (1 << left, NONE)
-            } else {
-                let (a, b) = (plans[left as usize].set, plans[right as usize].set);
-                (a | b, connecting_edges(a, b, self.graph)[0] as u32)
-            };
-            let rows = self.analyses.rows[operator].to_bits();
             let kind = kind(data);
-            plans.push(Plan { set, left, right, lead, kind, rows, cost: cost.to_bits() });
+            let rows = self.analyses.rows[&note.operator].to_bits();
+            let cost = note.total.to_bits();
+            plans.push(Plan { set, left, right, lead, kind, rows, cost });
         }
         plans
     }

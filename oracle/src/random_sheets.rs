@@ -8,10 +8,11 @@ use crate::walks::{Split, Step, grow_walk};
 const FOREIGN_COLUMN: u32 = 4_000_000_000;
 
 /// Kinds that the joins of one sheet are picked from.
-const KIND_MIXES: [&[u32]; 12] = [
+const KIND_MIXES: [&[u32]; 13] = [
     &[0],
     &[0, 0, 0, 8],
     &[0, 3],
+    &[0, 5],
     &[0, 1, 2],
     &[0, 3, 4, 5],
     &[3, 4],

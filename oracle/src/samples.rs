@@ -122,9 +122,11 @@ pub fn samples() -> Vec<Sample> {
         sample("cross product of two", two_joined(CROSS_PRODUCT, &[]), |outcome| {
             tried(outcome).len() == 1 && outcome.lists.candidates()[0].kind == CROSS_PRODUCT
         }),
-        sample("A, second predicate without columns", second_predicate_without_columns(), |outcome| {
-            ended(outcome, POURED, 2, 4) && edges(outcome)[1] == (3, 4)
-        }),
+        sample(
+            "A, second predicate without columns",
+            second_predicate_without_columns(),
+            |outcome| ended(outcome, POURED, 2, 4) && edges(outcome)[1] == (3, 4),
+        ),
         sample("(0 LeftOuter 1) Inner 2, a predicate unused", unused_predicate(), |outcome| {
             let at = tried(outcome).iter().position(|pair| *pair == (1, 6));
             edges(outcome) == [(1, 2), (2, 4), (3, 4)]

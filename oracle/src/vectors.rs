@@ -5,8 +5,8 @@ use std::io;
 use std::path::Path;
 
 use crate::boundary::{boundary_sheets, overlapping, star};
-use crate::cases::{Case, ample, cases};
-use crate::compare::{WIDE, is_begun};
+use crate::cases::{Case, DEFAULT_LIMIT, ample, cases};
+use crate::compare::{WIDE, follows};
 use crate::damage::damaged;
 use crate::outcome::{Outcome, answer};
 use crate::published;
@@ -16,7 +16,7 @@ use crate::reference::call;
 use crate::reference::check::check;
 use crate::samples::samples;
 use crate::sheet::{INNER, Sheet};
-use crate::walks::each_small_sheet;
+use crate::walks::{Small, each_small_sheet};
 
 const SEED: u64 = 20_261_016;
 /// Cases taken for each random sheet.
@@ -88,30 +88,28 @@ struct Calls {
     answers: [usize; answer::COUNT],
     with_candidates: usize,
     unequal: usize,
-    /// Accepted calls that were held to the Rust.
+    /// Calls that were held to the Rust.
     held: usize,
 }
 
 impl Calls {
     fn add(&mut self, sheet: &[u8], case: &Case) {
+        let fits = case.lists.iter().zip(ample().lists).all(|(length, most)| *length <= most);
+        assert!(fits, "lists fit a replaying program's arrays");
         let outcome = call(sheet, &case.lists, case.limit);
-        if outcome.accepted() {
-            self.hold(sheet, case, &outcome);
-        }
-        let lists = &case.lists;
-        let even = |store: &[u64]| store.iter().all(|length| *length == store[0]);
-        self.unequal += usize::from(![&lists[..5], &lists[5..12], &lists[12..]].into_iter().all(even));
+        self.hold(sheet, case, &outcome);
+        self.unequal += usize::from(case.is_unequal());
         self.answers[outcome.answer as usize] += 1;
         self.with_candidates += usize::from(!outcome.lists.candidates().is_empty());
         self.records.push(call_record(sheet, case, &outcome));
     }
 
-    /// Holds an accepted call to the Rust, if the Rust can end on its sheet.
+    /// Holds a call to the Rust, if the Rust can end on its sheet.
     fn hold(&mut self, bytes: &[u8], case: &Case, outcome: &Outcome) {
-        if call(bytes, &WIDE.lists, WIDE.limit).ended() {
-            let sheet = check(bytes).expect("an accepted sheet");
-            let lists = published::run(&sheet).lists;
-            assert!(is_begun(outcome, &lists, case), "the Rust differs on {:?}", sheet.words());
+        if call(bytes, &WIDE.lists, DEFAULT_LIMIT).ended() {
+            let sheet = check(bytes).expect("a search that ends is over an accepted sheet");
+            let published = published::run(&sheet);
+            assert!(follows(outcome, &published, case), "the Rust differs on {:?}", sheet.words());
             self.held += 1;
         }
     }
@@ -121,7 +119,8 @@ impl Calls {
         let mut left = cases(sheet, ample(), random);
         let mut taken = Vec::new();
         while !left.is_empty() && taken.len() < most {
-            let case = left.swap_remove(if taken.is_empty() { 0 } else { random.below(left.len()) });
+            let case =
+                left.swap_remove(if taken.is_empty() { 0 } else { random.below(left.len()) });
             if !taken.contains(&case) {
                 self.add(sheet, &case);
                 taken.push(case);
@@ -132,8 +131,10 @@ impl Calls {
 
 fn small_sheets(random: &mut Random) -> Vec<Sheet> {
     let mut all = Vec::new();
-    each_small_sheet(3, 2, &mut |sheet| all.push(sheet.clone()));
-    each_small_sheet(4, 1, &mut |sheet| all.push(sheet.clone()));
+    for (leaves, step) in [(3, 1), (4, 1009)] {
+        let small = Small { leaves, most_predicates: 2, step };
+        each_small_sheet(&small, &mut |sheet| all.push(sheet.clone()));
+    }
     (0..SMALL_SHEETS).map(|_| all.swap_remove(random.below(all.len()))).collect()
 }
 
@@ -150,7 +151,8 @@ fn calls() -> Calls {
         calls.around(&sample.sheet.bytes(), usize::MAX, &mut random);
     }
     for bounded in boundary_sheets() {
-        calls.add(&bounded.bytes, &ample());
+        let refused = check(&bounded.bytes).is_err() || bounded.answer == answer::TANGLE;
+        calls.around(&bounded.bytes, if refused { 2 } else { 1 }, &mut random);
     }
     for sheet in small_sheets(&mut random) {
         calls.add(&sheet.bytes(), &ample());

@@ -109,20 +109,27 @@ fn small_sheet(walk: &[Step], chosen: &[&Choice]) -> Sheet {
     sheet
 }
 
-/// Calls `each` with the sheet of every combination of choices on every walk
-/// of `leaves` leaves.
-pub fn each_small_sheet(leaves: usize, most_predicates: usize, each: &mut dyn FnMut(&Sheet)) {
-    for walk in all_walks(0, leaves) {
+/// Which small sheets: leaves, predicates of a join at the most, and every
+/// how many-th combination of choices.
+pub struct Small {
+    pub leaves: usize,
+    pub most_predicates: usize,
+    pub step: usize,
+}
+
+/// Calls `each` with the sheet of each combination of choices on each walk.
+pub fn each_small_sheet(small: &Small, each: &mut dyn FnMut(&Sheet)) {
+    for walk in all_walks(0, small.leaves) {
         let per_join: Vec<Vec<Choice>> = (walk.iter())
             .filter_map(|step| match *step {
                 Step::Leaf => None,
                 Step::Join { low, middle, high } => {
-                    Some(choices(low, middle, high, most_predicates))
+                    Some(choices(low, middle, high, small.most_predicates))
                 }
             })
             .collect();
         let combinations: usize = per_join.iter().map(Vec::len).product();
-        for mut number in 0..combinations {
+        for mut number in (0..combinations).step_by(small.step) {
             let mut chosen = Vec::new();
             for choices in &per_join {
                 chosen.push(&choices[number % choices.len()]);

@@ -32,8 +32,15 @@ pub trait Analyzable {
 pub struct AnalysisContext {
     /// Estimated rows of each operator costed so far.
     pub rows: HashMap<Operator, f64>,
-    /// Operators in the order in which they were costed, with their total cost.
-    pub costed: Vec<(Operator, f64)>,
+    /// Notes in the order in which operators were costed.
+    pub costed: Vec<Costed>,
+}
+
+/// An operator's total cost, and the visits counted until it was costed.
+pub struct Costed {
+    pub operator: Operator,
+    pub total: f64,
+    pub visits: u64,
 }
 
 impl AnalysisContext {
@@ -119,4 +126,3 @@ fn collect_columns(ctx: &QueryContext, expr: Expr, columns: &mut Vec<Column>) {
 pub fn connecting_edges(left: NodeSet, right: NodeSet, hg: &QueryHypergraph) -> Vec<usize> {
     connecting_edge_indices(left, right, hg)
 }
-

@@ -12,7 +12,11 @@ pub fn count() {
     COUNT.set(COUNT.get() + 1);
 }
 
-/// The visits since the last call.
-pub fn take() -> u64 {
-    COUNT.replace(0)
+/// The visits since the last reset.
+pub fn counted() -> u64 {
+    COUNT.get()
+}
+
+pub fn reset() {
+    COUNT.set(0);
 }

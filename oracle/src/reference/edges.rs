@@ -34,8 +34,7 @@ struct Builder<'a> {
 }
 
 pub fn edges(sheet: &Sheet) -> Vec<Edge> {
-    let mut builder =
-        Builder { sheet, leaves: Vec::new(), edges: Vec::new(), records: Vec::new() };
+    let mut builder = Builder { sheet, leaves: Vec::new(), edges: Vec::new(), records: Vec::new() };
     let mut pile = Vec::new();
     for (number, item) in sheet.items.iter().enumerate() {
         if item.is_leaf() {

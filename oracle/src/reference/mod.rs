@@ -25,7 +25,8 @@ fn store(lists: &[u64]) -> usize {
 pub fn call(bytes: &[u8], lists: &ListLengths, limit: u32) -> Outcome {
     match accept(bytes, lists) {
         Ok(sheet) => {
-            let room = Room { plans: store(&lists[5..12]), memo: store(&lists[12..]), visits: limit };
+            let room =
+                Room { plans: store(&lists[5..12]), memo: store(&lists[12..]), visits: limit };
             search(&sheet, room)
         }
         Err(answer) => Outcome::refused(answer),
