@@ -23,7 +23,7 @@ const SAMPLED_SHEETS: usize = 2_000;
 
 /// Room for every sheet that is compared. The Rust has no limit of visits, so
 /// a sheet that passes this one is not given to it.
-pub const WIDE: Case = Case { lists: [1 << 24; 14], limit: 30_000 };
+pub const WIDE: Case = Case { lists: [1 << 24; 14], limit: 100_000 };
 
 /// Counts of one part of the comparison, or of all.
 #[derive(Default)]

@@ -5,7 +5,7 @@ use std::io;
 use std::path::Path;
 
 use crate::boundary::{boundary_sheets, overlapping, star};
-use crate::cases::{Case, DEFAULT_LIMIT, ample, cases};
+use crate::cases::{Case, ample, cases};
 use crate::compare::{WIDE, follows};
 use crate::damage::damaged;
 use crate::outcome::{Outcome, answer};
@@ -106,7 +106,7 @@ impl Calls {
 
     /// Holds a call to the Rust, if the Rust can end on its sheet.
     fn hold(&mut self, bytes: &[u8], case: &Case, outcome: &Outcome) {
-        if call(bytes, &WIDE.lists, DEFAULT_LIMIT).ended() {
+        if call(bytes, &WIDE.lists, WIDE.limit).ended() {
             let sheet = check(bytes).expect("a search that ends is over an accepted sheet");
             let published = published::run(&sheet);
             assert!(follows(outcome, &published, case), "the Rust differs on {:?}", sheet.words());

@@ -286,3 +286,19 @@ bit-one-cases i j = go (eqb i j) refl
     go : (b : Bool) → eqb i j ≡ b → (bit (2 ^ i) j ≡ 0) ⊎ (i ≡ j)
     go true e = inr (eqb-true i j e)
     go false e = inl (bit-one-other i j (eqb-false i j e))
+
+-- ---- union
+pub or-assoc : (a b c : ℕ) → bitOr (bitOr a b) c ≡ bitOr a (bitOr b c)
+or-assoc =
+    bin-ind (λ (a : ℕ). (b c : ℕ) → bitOr (bitOr a b) c ≡ bitOr a (bitOr b c)) (λ b c. refl) (λ a ih b c. step a b c (ih (b / 2) (c / 2)))
+  where
+    half : (x y : ℕ) → bitOr x y / 2 ≡ bitOr (x / 2) (y / 2)
+    half x y = omega (arith, or-step x y)
+
+    step : (a b c : ℕ) → bitOr (bitOr (a / 2) (b / 2)) (c / 2) ≡ bitOr (a / 2) (bitOr (b / 2) (c / 2)) → bitOr (bitOr a b) c ≡ bitOr a (bitOr b c)
+    step a b c e =
+        let l = or-step (bitOr a b) c in
+        let r = or-step a (bitOr b c) in
+        let p = ap (λ (z : ℕ). bitOr z (c / 2)) (half a b) in
+        let q = ap (λ (z : ℕ). bitOr (a / 2) z) (half b c) in
+        omega (arith, or-odd a b, or-odd b c)
