@@ -19,11 +19,11 @@ vectors)
         cmp "$folder/$file" "$here/target/vectors/$file"
     done
     ;;
-plan)
+survey | plan)
     "$here/target/oracle" "$@"
     ;;
 *)
-    echo "usage: run.sh compare | vectors [folder] | plan [word...]" >&2
+    echo "usage: run.sh compare | survey | vectors [folder] | plan [word...]" >&2
     exit 2
     ;;
 esac

@@ -6,6 +6,7 @@ use optd_core::hypergraph;
 
 use crate::boundary::{boundary_sheets, chain, overlapping, star};
 use crate::cases::{Case, ample, cases};
+use crate::damage::damaged;
 use crate::outcome::answer::{FULL_HOPPER, FULL_SHELF, SMALL_CRATE, SPENT_SHIFT};
 use crate::outcome::{MemoEntry, Outcome, Plan};
 use crate::published::{self, Published, TYPES};
@@ -20,6 +21,7 @@ use crate::walks::{Small, each_small_sheet};
 const SEED: u64 = 429;
 const RANDOM_SHEETS: usize = 60_000;
 const SAMPLED_SHEETS: usize = 2_000;
+const DAMAGED_COPIES: usize = 20_000;
 
 /// Room for every sheet that is compared. The Rust has no limit of visits, so
 /// a sheet that passes this one is not given to it.
@@ -262,6 +264,21 @@ fn random() -> Tally {
     tally
 }
 
+/// Damaged copies that are still accepted: they are read as they were written,
+/// and go to the Rust.
+fn damaged_copies() -> Tally {
+    let mut tally = Tally::default();
+    let mut random = Random::new(SEED + 2);
+    for _ in 0..DAMAGED_COPIES {
+        let bytes = damaged(&random_sheet(8, &mut random).bytes(), &mut random);
+        if let Ok(sheet) = check(&bytes) {
+            tally.hold_other(sheet.bytes() == bytes, "reading a sheet", &sheet);
+            tally.sheet(&sheet, &WIDE);
+        }
+    }
+    tally
+}
+
 fn stores_and_limits() -> Tally {
     let mut tally = Tally::default();
     let mut random = Random::new(SEED + 1);
@@ -272,21 +289,26 @@ fn stores_and_limits() -> Tally {
     tally
 }
 
+/// A part of the comparison by name.
+type Part = (&'static str, fn() -> Tally);
+
+const PARTS: [Part; 8] = [
+    ("conflict tables", tables),
+    ("samples", sample_sheets),
+    ("boundary sheets", boundary),
+    ("large sheets", large),
+    ("all small sheets", small),
+    ("random sheets", random),
+    ("damaged copies still accepted", damaged_copies),
+    ("other stores and limits", stores_and_limits),
+];
+
 /// Runs every part, prints the counts and gives the differences.
 pub fn compare() -> usize {
-    let mut all = Tally::default();
-    let parts: [(&str, fn() -> Tally); 7] = [
-        ("conflict tables", tables),
-        ("samples", sample_sheets),
-        ("boundary sheets", boundary),
-        ("large sheets", large),
-        ("all small sheets", small),
-        ("random sheets", random),
-        ("other stores and limits", stores_and_limits),
-    ];
-    let rust = if cfg!(counted) { "the counted copy, visits too" } else { "the unchanged Rust" };
+    let rust = if cfg!(counted) { "the counted copy, looks too" } else { "the unchanged Rust" };
     println!("reference and {rust}:");
-    for (part, run) in parts {
+    let mut all = Tally::default();
+    for (part, run) in PARTS {
         all.add(part, run());
     }
     println!(

@@ -14,6 +14,7 @@ mod random_sheets;
 mod reference;
 mod samples;
 mod sheet;
+mod survey;
 mod vectors;
 mod walks;
 
@@ -40,11 +41,12 @@ fn main() -> Result<ExitCode, Box<dyn Error>> {
         Some((command, [])) if command == "compare" => {
             return Ok(ExitCode::from(u8::from(compare::compare() > 0)));
         }
+        Some((command, [])) if command == "survey" => survey::print_survey(),
         Some((command, [folder])) if command == "vectors" => {
             vectors::write_vectors(Path::new(folder))?;
         }
         Some((command, words)) if command == "plan" => plan::print_plan(&sheet_bytes(words)?),
-        _ => return Err("usage: oracle compare | vectors FOLDER | plan [WORD...]".into()),
+        _ => return Err("usage: oracle compare | survey | vectors FOLDER | plan [WORD...]".into()),
     }
     Ok(ExitCode::SUCCESS)
 }

@@ -69,6 +69,16 @@ impl Lists {
         &self.plans[self.leaves()..]
     }
 
+    /// The left and right set of a plan.
+    pub fn sides(&self, plan: &Plan) -> (u64, u64) {
+        (self.plans[plan.left as usize].set, self.plans[plan.right as usize].set)
+    }
+
+    /// The left and right set of each candidate.
+    pub fn tried(&self) -> impl Iterator<Item = (u64, u64)> {
+        self.candidates().iter().map(|plan| self.sides(plan))
+    }
+
     pub const EMPTY: Lists =
         Lists { edges: Vec::new(), plans: Vec::new(), memo: Vec::new(), chosen: NONE };
 }

@@ -34,20 +34,12 @@ fn print_lists(lists: &Lists) {
             edge.left, edge.right, edge.predicate, edge.source, edge.join_type
         );
     }
-    let set = |plan: u32| lists.plans[plan as usize].set;
     for (number, plan) in lists.candidates().iter().enumerate() {
+        let (left, right) = lists.sides(plan);
         println!(
-            "trial {number} left {:016x} right {:016x} plans {} {} lead {} kind {} rows {:016x} cost {:016x} ({:e} {:e})",
-            set(plan.left),
-            set(plan.right),
-            plan.left,
-            plan.right,
-            plan.lead,
-            plan.kind,
-            plan.rows,
-            plan.cost,
-            f64::from_bits(plan.rows),
-            f64::from_bits(plan.cost),
+            "trial {number} left {left:016x} right {right:016x} plans {} {} lead {} kind {} \
+             rows {:016x} cost {:016x}",
+            plan.left, plan.right, plan.lead, plan.kind, plan.rows, plan.cost
         );
     }
     for (number, entry) in lists.memo.iter().enumerate() {

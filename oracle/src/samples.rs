@@ -1,8 +1,8 @@
 //! Document 01's sample sheets, with what it says of them.
 
 use crate::cases::DEFAULT_LIMIT;
+use crate::outcome::Outcome;
 use crate::outcome::answer::{DRY_RUN, POURED, SPENT_SHIFT};
-use crate::outcome::{Outcome, Plan};
 use crate::reference::check::check;
 use crate::sheet::{CROSS_PRODUCT, INNER, Range, Sheet, bytes_of};
 
@@ -38,7 +38,7 @@ fn tie() -> Sheet {
     sheet
 }
 
-/// Two leaves with the columns 1 and 2.
+/// Leaves with a column each, numbered from 1.
 fn leaves(count: u32) -> Sheet {
     let mut sheet = Sheet::default();
     for leaf in 1..=count {
@@ -72,9 +72,7 @@ fn edges(outcome: &Outcome) -> Vec<(u64, u64)> {
 }
 
 fn tried(outcome: &Outcome) -> Vec<(u64, u64)> {
-    let set = |plan: u32| outcome.lists.plans[plan as usize].set;
-    let pair = |plan: &Plan| (set(plan.left), set(plan.right));
-    outcome.lists.candidates().iter().map(pair).collect()
+    outcome.lists.tried().collect()
 }
 
 fn costs(outcome: &Outcome) -> Vec<f64> {
@@ -91,8 +89,9 @@ fn sample(name: &'static str, sheet: Sheet, holds: fn(&Outcome) -> bool) -> Samp
     Sample { name, sheet, limit: DEFAULT_LIMIT, holds }
 }
 
-pub fn samples() -> Vec<Sample> {
-    let one_predicate = || two_joined(INNER, &[(32_768, [1, 2])]);
+/// Two joins.
+fn three_leaves() -> Vec<Sample> {
+    let without_columns = second_predicate_without_columns();
     vec![
         sample("sheet A", sheet_a(), |outcome| {
             ended(outcome, POURED, 4, 8)
@@ -103,15 +102,25 @@ pub fn samples() -> Vec<Sample> {
         sample("a tie", tie(), |outcome| {
             costs(outcome)[2..] == [52.0, 52.0] && outcome.lists.chosen == 5
         }),
-        sample("two leaves, one predicate", one_predicate(), |outcome| {
-            ended(outcome, POURED, 1, 2)
+        sample("A, second predicate without columns", without_columns, |outcome| {
+            ended(outcome, POURED, 2, 4) && edges(outcome)[1] == (3, 4)
         }),
-        Sample {
-            limit: 1,
-            ..sample("two leaves, one predicate, limit 1", one_predicate(), |outcome| {
-                ended(outcome, SPENT_SHIFT, 1, 1) && outcome.lists.memo.len() == 3
-            })
-        },
+        sample("(0 LeftOuter 1) Inner 2, a predicate unused", unused_predicate(), |outcome| {
+            let at = tried(outcome).iter().position(|pair| *pair == (1, 6));
+            edges(outcome) == [(1, 2), (2, 4), (3, 4)]
+                && at.is_some_and(|at| outcome.lists.candidates()[at].lead == 0)
+        }),
+    ]
+}
+
+/// One join or none.
+fn few_leaves() -> Vec<Sample> {
+    let one_predicate = || two_joined(INNER, &[(32_768, [1, 2])]);
+    let spent =
+        |outcome: &Outcome| ended(outcome, SPENT_SHIFT, 1, 1) && outcome.lists.memo.len() == 3;
+    vec![
+        sample("two leaves", one_predicate(), |outcome| ended(outcome, POURED, 1, 2)),
+        Sample { limit: 1, ..sample("two leaves, limit 1", one_predicate(), spent) },
         sample("one leaf", leaves(1), |outcome| {
             ended(outcome, POURED, 0, 0) && outcome.lists.chosen == 0
         }),
@@ -122,15 +131,9 @@ pub fn samples() -> Vec<Sample> {
         sample("cross product of two", two_joined(CROSS_PRODUCT, &[]), |outcome| {
             tried(outcome).len() == 1 && outcome.lists.candidates()[0].kind == CROSS_PRODUCT
         }),
-        sample(
-            "A, second predicate without columns",
-            second_predicate_without_columns(),
-            |outcome| ended(outcome, POURED, 2, 4) && edges(outcome)[1] == (3, 4),
-        ),
-        sample("(0 LeftOuter 1) Inner 2, a predicate unused", unused_predicate(), |outcome| {
-            let at = tried(outcome).iter().position(|pair| *pair == (1, 6));
-            edges(outcome) == [(1, 2), (2, 4), (3, 4)]
-                && at.is_some_and(|at| outcome.lists.candidates()[at].lead == 0)
-        }),
     ]
+}
+
+pub fn samples() -> Vec<Sample> {
+    three_leaves().into_iter().chain(few_leaves()).collect()
 }

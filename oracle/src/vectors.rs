@@ -18,7 +18,8 @@ use crate::samples::samples;
 use crate::sheet::{INNER, Sheet};
 use crate::walks::{Small, each_small_sheet};
 
-const SEED: u64 = 20_261_016;
+const CALLS_SEED: u64 = 20_261_016;
+const CHECKS_SEED: u64 = 20_261_017;
 /// Cases taken for each random sheet.
 const CASES_EACH: usize = 4;
 const SMALL_SHEETS: usize = 48;
@@ -145,7 +146,7 @@ fn random_sheets(count: usize, leaves: usize, random: &mut Random) -> Vec<Sheet>
 }
 
 fn calls() -> Calls {
-    let mut random = Random::new(SEED);
+    let mut random = Random::new(CALLS_SEED);
     let mut calls = Calls::default();
     for sample in samples() {
         calls.around(&sample.sheet.bytes(), usize::MAX, &mut random);
@@ -171,7 +172,7 @@ fn calls() -> Calls {
 
 /// Sheets with the sheet check's answer: 1 to 9, or 0 if it has none of these.
 fn checks() -> Vec<Vec<u8>> {
-    let mut random = Random::new(SEED + 1);
+    let mut random = Random::new(CHECKS_SEED);
     let mut sheets: Vec<Vec<u8>> =
         boundary_sheets().into_iter().map(|bounded| bounded.bytes).collect();
     for sheet in random_sheets(DAMAGED_SHEETS, 6, &mut random) {
@@ -186,9 +187,9 @@ fn checks() -> Vec<Vec<u8>> {
 }
 
 /// Writes the records under a line that says how they were made.
-fn write(path: &Path, what: &str, records: &[Vec<u8>]) -> io::Result<()> {
+fn write(path: &Path, what: &str, seed: u64, records: &[Vec<u8>]) -> io::Result<()> {
     let count = records.len();
-    let line = format!("{what}: {count} records, made by oracle/run.sh vectors, seed {SEED}\n");
+    let line = format!("{what}: {count} records, made by oracle/run.sh vectors, seed {seed}\n");
     let contents = [line.as_bytes(), &records.concat()].concat();
     fs::write(path, &contents)?;
     println!("{}: {count} records, {} bytes", path.display(), contents.len());
@@ -198,10 +199,10 @@ fn write(path: &Path, what: &str, records: &[Vec<u8>]) -> io::Result<()> {
 pub fn write_vectors(folder: &Path) -> io::Result<()> {
     fs::create_dir_all(folder)?;
     let calls = calls();
-    write(&folder.join("calls.bin"), "calls", &calls.records)?;
+    write(&folder.join("calls.bin"), "calls", CALLS_SEED, &calls.records)?;
     println!(
         "  {} with trials, {} with unequal lists, {} held to the Rust, by answer {:?}",
         calls.with_candidates, calls.unequal, calls.held, calls.answers
     );
-    write(&folder.join("checks.bin"), "sheet checks", &checks())
+    write(&folder.join("checks.bin"), "sheet checks", CHECKS_SEED, &checks())
 }

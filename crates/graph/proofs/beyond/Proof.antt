@@ -1,7 +1,6 @@
 use borrow.Author.Needs.{needs}
 use Rattle.graph.proofs.beyond.Statement.{statement}
 use Rattle.graph.proofs.beyond.Tie as tie
-
 use mathlib.Core.Path.{_≡_, sym, ap, _∙_}
 use mathlib.Core.Bool.{Bool, true, false, _&&_}
 use Prim.Native.Nat.{ℕ}

@@ -1,6 +1,5 @@
 use Rattle.graph.proofs.has_edge.Statement.{statement}
 use Rattle.graph.proofs.has_edge.Tie as tie
-
 use borrow.Author.Needs.{needs}
 use mathlib.Core.Path.{_≡_, refl, sym, _∙_}
 use mathlib.Core.List.{List}

@@ -1,6 +1,5 @@
 use Rattle.graph.proofs.neighborhood.Statement.{statement}
 use Rattle.graph.proofs.neighborhood.Tie as tie
-
 use borrow.Author.Needs.{needs}
 use mathlib.Core.Path.{_≡_, refl, sym, ap, ap₂, _∙_}
 use mathlib.Core.List.{List}
