@@ -26,11 +26,11 @@ unfoldable pub merge : ℕ → List ℕ → List ℕ
 merge s classes = map (λ (p : ℕ). elim (disjoint p s) [ true ↦ p | false ↦ met s 0 classes ]) classes
 
 -- "an edge merges its sides' classes once each side lies in one class; edges whose union equals the earlier join's record union are passed
--- over": it is not passed over, each side lies in one class, and the two are not one yet
+-- over": it is not passed over, each side lies in one class, and the two are not one yet (merging a class with itself changes nothing)
 unfoldable pub merges : ℕ → ℕ → ℕ → List ℕ → Bool
 merges skip l r classes = not (eqb (bitOr l r) skip) && not (oneClass (bitOr l r) classes) && oneClass l classes && oneClass r classes
 
--- the edges in order, each by its left and its right side
+-- the edges in order, each by its left and its right side, which are lists of their own, as the builder holds them
 unfoldable pub round : ℕ → List ℕ → List ℕ → List ℕ → List ℕ
 round skip [] rs classes = classes
 round skip (l ∷ ls) [] classes = classes

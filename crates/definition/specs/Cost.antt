@@ -13,7 +13,7 @@ whole n = ofInt binary64 (pos n)
 abbrev pub ceiling : Float
 ceiling = fin false 1 (pos 500)
 
--- 65,536, the selectivity that keeps every row
+-- 65,536, the selectivity that keeps every row pair
 abbrev pub full : Float
 full = fin false 1 (pos 16)
 

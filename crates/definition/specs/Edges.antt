@@ -1,5 +1,5 @@
 -- Document 01, 'Edges (maker: edge building; reader: the search)', over the open question.
-use Prim.Native.Nat.{ℕ, zero, suc, _+_}
+use Prim.Native.Nat.{ℕ, suc, _+_}
 use mathlib.Core.Bool.{Bool, true, false, _&&_, not}
 use mathlib.Core.List.{List, [], _∷_, _++_, map}
 use lib.ListN.{length}
@@ -12,7 +12,7 @@ use Rattle.definition.specs.Tables.{typeOf, assoc, l-asscom, r-asscom}
 use Rattle.definition.specs.Hypergraph.{Edge, none32}
 use Rattle.definition.specs.Connected.{connected}
 
--- an earlier join: its type, the leaves of its two sides, and its record sets
+-- an earlier join: its type, the leaves of its two sides, and its record sets (the Rust's TES)
 pub record JoinRecord : Type 0 where
   pub type : ℕ
   pub leftNodes : ℕ
@@ -38,15 +38,17 @@ unfoldable pub holder : ℕ → List (List ℕ) → ℕ → ℕ → ℕ
 holder k [] s c = 0
 holder k (cs ∷ ls) s c = elim (eqb (bit s k) 1 && member c cs) [ true ↦ singleton k | false ↦ holder (suc k) ls s c ]
 
-unfoldable pub holders : List (List ℕ) → ℕ → List ℕ → ℕ
-holders ls s [] = 0
-holders ls s (c ∷ cs) = bitOr (holder 0 ls s c) (holders ls s cs)
+-- t with that leaf of each column
+unfoldable pub holders : List (List ℕ) → ℕ → List ℕ → ℕ → ℕ
+holders ls s [] t = t
+holders ls s (c ∷ cs) t = holders ls s cs (bitOr t (holder 0 ls s c))
 
 -- "a side left empty becomes the whole side"
 unfoldable pub sideSet : List (List ℕ) → ℕ → List ℕ → ℕ
-sideSet ls s cs = elim (eqb (holders ls s cs) 0) [ true ↦ s | false ↦ holders ls s cs ]
+sideSet ls s cs = let t = holders ls s cs 0 in elim (eqb t 0) [ true ↦ s | false ↦ t ]
 
--- the earlier join's leaves `from` are connected to our side `to` by the edges so far
+-- the earlier join's leaves `from` are connected to our side `to` by the edges so far; "edges whose union equals the earlier join's record
+-- union are passed over"
 abbrev pub linked : List Edge → JoinRecord → ℕ → ℕ → Bool
 linked es j from to =
     connected (map (λ (e : Edge). e .left) es) (map (λ (e : Edge). e .right) es) from to (bitOr (j .tesLeft) (j .tesRight))
@@ -72,7 +74,8 @@ widenedRight es t l j s =
     gained (r-asscom (j .type) t) (linked es j (j .rightNodes) l) (j .tesLeft)
     (gained (assoc (j .type) t) (linked es j (j .leftNodes) l) (j .tesRight) s)
 
--- each earlier join in turn, from the side sets on. l and r: our whole sides
+-- each earlier join in turn, from the side sets on. l and r: our whole sides, which share no leaf, so that a join lies inside one of them at
+-- most
 unfoldable pub widen : List Edge → ℕ → ℕ → ℕ → List JoinRecord → Sides → Sides
 widen es t l r [] s = s
 widen es t l r (j ∷ js) s =
@@ -142,26 +145,32 @@ leafItem q i b =
       pile = singleton (length (b .leaves)) ∷ b .pile;
     }
 
--- "a join takes inner then outer off": inner is the right side, outer the left. A walk never finds fewer than two
-abbrev pub onPile : OpenQuestion → ℕ → OpenItem → List ℕ → Build → Build
-onPile q k i [] b = b
-onPile q k i (r ∷ []) b = b
-onPile q k i (r ∷ (l ∷ rest)) b =
-    elim (eqb (i .kind) crossProduct) [ true ↦ crossItem k l r rest b | false ↦ joinItem q k i l r rest b ]
+-- a join or cross product of the sides l and r, by document 01's rule
+abbrev pub join : OpenQuestion → ℕ → OpenItem → ℕ → ℕ → List ℕ → Build → Build
+join q k i l r rest b = elim (eqb (i .kind) crossProduct) [ true ↦ crossItem k l r rest b | false ↦ joinItem q k i l r rest b ]
 
-unfoldable pub buildItem : OpenQuestion → ℕ → OpenItem → Build → Build
-buildItem q k i b = elim (eqb (i .kind) leaf) [ true ↦ leafItem q i b | false ↦ onPile q k i (b .pile) b ]
+-- ---- the walk, whatever the rule for a join
 
--- "Joins are worked in walk order." k: the number of the list's first item
-unfoldable pub buildFrom : OpenQuestion → ℕ → List OpenItem → Build → Build
-buildFrom q k [] b = b
-buildFrom q k (i ∷ is) b = buildFrom q (suc k) is (buildItem q k i b)
+module _ (rule : OpenQuestion → ℕ → OpenItem → ℕ → ℕ → List ℕ → Build → Build) where
+  -- "a join takes inner then outer off": inner is the right side, outer the left. A walk never finds fewer than two
+  abbrev pub onPile : OpenQuestion → ℕ → OpenItem → List ℕ → Build → Build
+  onPile q k i [] b = b
+  onPile q k i (r ∷ []) b = b
+  onPile q k i (r ∷ (l ∷ rest)) b = rule q k i l r rest b
+
+  unfoldable pub buildItem : OpenQuestion → ℕ → OpenItem → Build → Build
+  buildItem q k i b = elim (eqb (i .kind) leaf) [ true ↦ leafItem q i b | false ↦ onPile q k i (b .pile) b ]
+
+  -- "Joins are worked in walk order." k: the number of the list's first item
+  unfoldable pub buildFrom : OpenQuestion → ℕ → List OpenItem → Build → Build
+  buildFrom q k [] b = b
+  buildFrom q k (i ∷ is) b = buildFrom q (suc k) is (buildItem q k i b)
 
 abbrev pub emptyBuild : Build
 emptyBuild = record { leaves = []; edges = []; joins = []; pile = [] }
 
 unfoldable pub buildHypergraph : OpenQuestion → List Edge
-buildHypergraph q = buildFrom q 0 (q .items) emptyBuild .edges
+buildHypergraph q = buildFrom join q 0 (q .items) emptyBuild .edges
 
 -- the number of edges, from the items' words alone: one for each predicate of a join, one for a cross product
 unfoldable pub edgeCount : List OpenItem → ℕ

@@ -1,5 +1,5 @@
 -- Edges, and what the search asks of them. No row count and no selectivity occurs here but in `selectivitiesOf`.
-use Prim.Native.Nat.{ℕ, zero, suc}
+use Prim.Native.Nat.{ℕ, suc}
 use mathlib.Core.Bool.{Bool, true, false, _&&_, _||_, not}
 use mathlib.Core.List.{List, [], _∷_}
 use lib.ListN.{getD}

@@ -1,61 +1,35 @@
 -- Document 01, 'Sample sheets': the starred ones, from the sheet's words to all that comes out, in one table with one computed test.
 use mathlib.Core.Path.{_≡_, refl}
-use Prim.Native.Nat.{ℕ, _-_, _/_, _%_}
-use mathlib.Core.List.{List, [], _∷_, map}
-use lib.ListN.{length, drop}
+use Prim.Native.Nat.{ℕ, _/_, _%_, _^_}
+use mathlib.Core.List.{List, [], _∷_, _++_, map}
 use lib.Count.{trailingZeros}
-use lib.Ieee.{Float, mul, add, div, lt, ofInt}
+use lib.Ieee.{mul, add, div, lt, ofInt}
 use Rattle.nodeset.specs.Sets.{bit, singleton, lowest, allBelow, upToLowest}
 use Rattle.nodeset.specs.Subsets.{doubled, subsetsOf, nonEmptySubsets, singletonsBelow, singletons}
 use Rattle.definition.specs.Lists.{tabulate, concatMap, member}
-use Rattle.definition.specs.Question.{leafCount, endsWithOne}
+use Rattle.definition.specs.Question.{leaf, leafCount, endsWithOne}
 use Rattle.definition.specs.Sheet.{word, firstFailing, questionOf, questionAnswer, sheetAnswer}
 use Rattle.definition.specs.Tables.{typeOf, assoc, l-asscom, r-asscom}
 use Rattle.definition.specs.Hypergraph.{Edge, none32, hasEdge, connectingFrom, beyond, neighborhood, anyPredicate, selectivitiesOf}
 use Rattle.definition.specs.Connected.{oneClass, met, merge, merges, round, rounds, connected}
 use Rattle.definition.specs.Edges.{buildHypergraph, buildFrom, buildItem, joinItem, crossItem, leafItem, innerEdges, otherEdges, sidesFor, widen, sideSet, holders, holder, edgeCount}
-use Rattle.definition.specs.Cost.{whole, filtered, candidateFrom}
+use Rattle.definition.specs.Cost.{Estimate, whole, filtered, candidateFrom}
 use Rattle.definition.specs.Walk.{enumerateCmpRec, emitCsg, enumerateCsgRec, solveFrom}
-use Rattle.definition.specs.Search.{Plan, Pair, find, replace, visit, candidateKind, candidate, noted, joined, attempt, leafPlans, leafEntries, start, search}
-use Rattle.definition.specs.Call.{Rooms, Outcome, leavesOf, searched, callQuestion, call}
-
--- what comes out of a call: the answer, the three counts, visits, chosen plan, edges, candidates' pairs and costs, and the kinds of all plans
-pub record Seen : Type 0 where
-  pub answer : ℕ
-  pub counts : List ℕ
-  pub visits : ℕ
-  pub chosen : ℕ
-  pub edges : List Edge
-  pub pairs : List Pair
-  pub costs : List Float
-  pub kinds : List ℕ
+use Rattle.definition.specs.Search.{Plan, Entry, Pair, find, replace, visit, candidateKind, candidate, noted, joined, attempt, leafPlans, leafEntries, start, search}
+use Rattle.definition.specs.Call.{Rooms, Outcome, defaultLimit, refusedWith, leavesOf, searched, call}
 
 pub record Row : Type 0 where
   pub words : List ℕ
   pub rooms : Rooms
   pub limit : ℕ
-  pub expected : Seen
+  pub expected : Outcome
 
 abbrev bytes : ℕ → List ℕ
 bytes w = (w % 256) ∷ (w / 256 % 256) ∷ (w / 65536 % 256) ∷ (w / 16777216) ∷ []
 
--- the candidates' costs: those of the plans past the leaves'
-abbrev seen : Outcome → Seen
-seen o =
-    record {
-      answer = o .answer;
-      counts = length (o .edges) ∷ length (o .plans) ∷ length (o .memo) ∷ [];
-      visits = o .visits;
-      chosen = o .chosen;
-      edges = o .edges;
-      pairs = o .tried;
-      costs = drop (length (o .plans) - length (o .tried)) (map (λ (p : Plan). p .estimate .cost) (o .plans));
-      kinds = map (λ (p : Plan). p .kind) (o .plans);
-    }
-
-unfoldable pub outcome : Row → Seen
-unfolding trailingZeros bit singleton lowest allBelow upToLowest doubled subsetsOf nonEmptySubsets singletonsBelow singletons tabulate concatMap member leafCount endsWithOne word firstFailing questionOf questionAnswer sheetAnswer typeOf assoc l-asscom r-asscom hasEdge connectingFrom beyond neighborhood anyPredicate selectivitiesOf oneClass met merge merges round rounds connected buildHypergraph buildFrom buildItem joinItem crossItem leafItem innerEdges otherEdges sidesFor widen sideSet holders holder edgeCount filtered candidateFrom enumerateCmpRec emitCsg enumerateCsgRec solveFrom find replace visit candidateKind candidate noted joined attempt leafPlans leafEntries start search leavesOf searched callQuestion call mul add div lt ofInt
-outcome r = seen (call (concatMap bytes (r .words)) (r .rooms) (r .limit))
+unfoldable pub outcome : Row → Outcome
+unfolding trailingZeros bit singleton lowest allBelow upToLowest doubled subsetsOf nonEmptySubsets singletonsBelow singletons tabulate concatMap member leafCount endsWithOne word firstFailing questionOf questionAnswer sheetAnswer typeOf assoc l-asscom r-asscom hasEdge connectingFrom beyond neighborhood anyPredicate selectivitiesOf oneClass met merge merges round rounds connected buildHypergraph buildFrom buildItem joinItem crossItem leafItem innerEdges otherEdges sidesFor widen sideSet holders holder edgeCount filtered candidateFrom enumerateCmpRec emitCsg enumerateCsgRec solveFrom find replace visit candidateKind candidate noted joined attempt leafPlans leafEntries start search leavesOf searched refusedWith call mul add div lt ofInt
+outcome r = call (concatMap bytes (r .words)) (r .rooms) (r .limit)
 
 abbrev rooms : ℕ → ℕ → ℕ → Rooms
 rooms e p m = record { edges = e; plans = p; memo = m }
@@ -67,10 +41,32 @@ ample = rooms 256 1088 512
 abbrev edge : ℕ → ℕ → ℕ → ℕ → ℕ → Edge
 edge l r p m t = record { left = l; right = r; predicate = p; source = m; type = t }
 
+abbrev entry : ℕ → ℕ → Entry
+entry s p = record { set = s; plan = p }
+
 abbrev pair : ℕ → ℕ → Pair
 pair a b = record { left = a; right = b }
 
--- 5 items of sheet A, and its columns
+-- a candidate: set, left plan, right plan, lead edge, kind, rows, cost
+abbrev join : ℕ → ℕ → ℕ → ℕ → ℕ → ℕ → ℕ → Plan
+join s l r lead kind rows cost =
+    record { set = s; left = l; right = r; lead = lead; kind = kind; estimate = record { rows = whole rows; cost = whole cost } }
+
+-- leaf n
+abbrev scan : ℕ → ℕ → ℕ → Plan
+scan n rows cost = join (2 ^ n) n n none32 leaf rows cost
+
+-- words, stores, limit; then answer, visits, chosen plan, edges, plans, memo entries, pairs
+abbrev row : List ℕ → Rooms → ℕ → ℕ → ℕ → ℕ → List Edge → List Plan → List Entry → List Pair → Row
+row ws rs limit answer visits chosen es ps ms ts =
+    record {
+      words = ws;
+      rooms = rs;
+      limit = limit;
+      expected = record { answer = answer; edges = es; plans = ps; memo = ms; visits = visits; chosen = chosen; tried = ts };
+    }
+
+-- "Sheet A, 144 bytes, by words"
 abbrev sheetA : List ℕ
 sheetA = 5 ∷ 24 ∷ 2 ∷ 104 ∷ 4 ∷ 128 ∷ 9 ∷ 4 ∷ 0 ∷ 1 ∷ 9 ∷ 8 ∷ 1 ∷ 2 ∷ 0 ∷ 0 ∷ 0 ∷ 1 ∷ 9 ∷ 16 ∷ 3 ∷ 1 ∷ 0 ∷ 0 ∷ 1 ∷ 1 ∷ 32768 ∷ 0 ∷ 2 ∷ 16384 ∷ 2 ∷ 2 ∷ 1 ∷ 2 ∷ 3 ∷ 4 ∷ []
 
@@ -78,62 +74,184 @@ sheetA = 5 ∷ 24 ∷ 2 ∷ 104 ∷ 4 ∷ 128 ∷ 9 ∷ 4 ∷ 0 ∷ 1 ∷ 9 ∷ 
 abbrev tie : List ℕ
 tie = 5 ∷ 24 ∷ 2 ∷ 104 ∷ 3 ∷ 128 ∷ 9 ∷ 4 ∷ 0 ∷ 1 ∷ 9 ∷ 4 ∷ 1 ∷ 1 ∷ 0 ∷ 0 ∷ 0 ∷ 1 ∷ 9 ∷ 4 ∷ 2 ∷ 1 ∷ 0 ∷ 0 ∷ 1 ∷ 1 ∷ 16384 ∷ 0 ∷ 2 ∷ 16384 ∷ 1 ∷ 2 ∷ 1 ∷ 2 ∷ 3 ∷ []
 
+-- "Two leaves, one predicate"
 abbrev twoLeaves : List ℕ
 twoLeaves = 3 ∷ 24 ∷ 1 ∷ 72 ∷ 2 ∷ 84 ∷ 9 ∷ 4 ∷ 0 ∷ 1 ∷ 9 ∷ 4 ∷ 1 ∷ 1 ∷ 0 ∷ 0 ∷ 0 ∷ 1 ∷ 16384 ∷ 0 ∷ 2 ∷ 1 ∷ 2 ∷ []
 
+-- "One leaf"
 abbrev oneLeaf : List ℕ
 oneLeaf = 1 ∷ 24 ∷ 0 ∷ 40 ∷ 1 ∷ 40 ∷ 9 ∷ 4 ∷ 0 ∷ 1 ∷ 1 ∷ []
 
+-- "No items"
 abbrev noItems : List ℕ
 noItems = 0 ∷ 24 ∷ 0 ∷ 24 ∷ 0 ∷ 24 ∷ []
 
+-- "Inner join with no predicates"
 abbrev withoutPredicates : List ℕ
 withoutPredicates = 3 ∷ 24 ∷ 0 ∷ 72 ∷ 2 ∷ 72 ∷ 9 ∷ 4 ∷ 0 ∷ 1 ∷ 9 ∷ 4 ∷ 1 ∷ 1 ∷ 0 ∷ 0 ∷ 0 ∷ 0 ∷ 1 ∷ 2 ∷ []
 
+-- "Cross product of two"
 abbrev crossOfTwo : List ℕ
 crossOfTwo = 3 ∷ 24 ∷ 0 ∷ 72 ∷ 2 ∷ 72 ∷ 9 ∷ 4 ∷ 0 ∷ 1 ∷ 9 ∷ 4 ∷ 1 ∷ 1 ∷ 8 ∷ 0 ∷ 0 ∷ 0 ∷ 1 ∷ 2 ∷ []
 
--- A whose second predicate has no columns
+-- "A whose second predicate has no columns"
 abbrev withoutColumns : List ℕ
 withoutColumns = 5 ∷ 24 ∷ 2 ∷ 104 ∷ 4 ∷ 128 ∷ 9 ∷ 4 ∷ 0 ∷ 1 ∷ 9 ∷ 8 ∷ 1 ∷ 2 ∷ 0 ∷ 0 ∷ 0 ∷ 1 ∷ 9 ∷ 16 ∷ 3 ∷ 1 ∷ 0 ∷ 0 ∷ 1 ∷ 1 ∷ 32768 ∷ 0 ∷ 2 ∷ 16384 ∷ 2 ∷ 0 ∷ 1 ∷ 2 ∷ 3 ∷ 4 ∷ []
 
--- (0 LeftOuter 1) Inner 2, both Inner predicates on 1 and 2
+-- "(0 LeftOuter 1) Inner 2, both Inner predicates on 1 and 2": at the candidate of {0} and {1,2} the third predicate goes unused
 abbrev outerThenInner : List ℕ
-outerThenInner = 5 ∷ 24 ∷ 3 ∷ 104 ∷ 3 ∷ 140 ∷ 9 ∷ 4 ∷ 0 ∷ 1 ∷ 9 ∷ 4 ∷ 1 ∷ 1 ∷ 3 ∷ 0 ∷ 0 ∷ 1 ∷ 9 ∷ 4 ∷ 2 ∷ 1 ∷ 0 ∷ 0 ∷ 1 ∷ 2 ∷ 65536 ∷ 0 ∷ 2 ∷ 65536 ∷ 1 ∷ 2 ∷ 65536 ∷ 1 ∷ 2 ∷ 1 ∷ 2 ∷ 3 ∷ []
+outerThenInner = 5 ∷ 24 ∷ 3 ∷ 104 ∷ 3 ∷ 140 ∷ 9 ∷ 4 ∷ 0 ∷ 1 ∷ 9 ∷ 4 ∷ 1 ∷ 1 ∷ 3 ∷ 0 ∷ 0 ∷ 1 ∷ 9 ∷ 4 ∷ 2 ∷ 1 ∷ 0 ∷ 0 ∷ 1 ∷ 2 ∷ 32768 ∷ 0 ∷ 2 ∷ 16384 ∷ 1 ∷ 2 ∷ 8192 ∷ 1 ∷ 2 ∷ 1 ∷ 2 ∷ 3 ∷ []
 
-abbrev row : List ℕ → Rooms → ℕ → ℕ → List ℕ → ℕ → ℕ → List Edge → List Pair → List ℕ → List ℕ → Row
-row ws rs limit answer counts visits chosen es ps costs kinds =
-    record {
-      words = ws;
-      rooms = rs;
-      limit = limit;
-      expected =
-          record { answer = answer; counts = counts; visits = visits; chosen = chosen; edges = es; pairs = ps; costs = map whole costs; kinds = kinds };
-    }
+-- A with other selectivities: the second candidate of all leaves is cheaper, and takes the first one's place
+abbrev replaced : List ℕ
+replaced = 5 ∷ 24 ∷ 2 ∷ 104 ∷ 4 ∷ 128 ∷ 9 ∷ 4 ∷ 0 ∷ 1 ∷ 9 ∷ 8 ∷ 1 ∷ 2 ∷ 0 ∷ 0 ∷ 0 ∷ 1 ∷ 9 ∷ 16 ∷ 3 ∷ 1 ∷ 0 ∷ 0 ∷ 1 ∷ 1 ∷ 16384 ∷ 0 ∷ 2 ∷ 65536 ∷ 2 ∷ 2 ∷ 1 ∷ 2 ∷ 3 ∷ 4 ∷ []
 
-abbrev edgesA : List Edge
-edgesA = edge 1 2 0 2 0 ∷ edge 2 4 1 4 0 ∷ []
+-- 0 Inner (1 RightOuter 2), which is not turned around; a candidate against its lead edge; leaves without columns; one predicate on two joins
+abbrev rightOuter : List ℕ
+rightOuter = 5 ∷ 24 ∷ 1 ∷ 104 ∷ 1 ∷ 116 ∷ 9 ∷ 4 ∷ 1 ∷ 0 ∷ 9 ∷ 4 ∷ 1 ∷ 0 ∷ 9 ∷ 4 ∷ 0 ∷ 1 ∷ 4 ∷ 0 ∷ 0 ∷ 1 ∷ 0 ∷ 0 ∷ 0 ∷ 1 ∷ 32768 ∷ 0 ∷ 1 ∷ 7 ∷ []
 
-abbrev pairsA : List Pair
-pairsA = pair 2 4 ∷ pair 1 2 ∷ pair 1 6 ∷ pair 3 4 ∷ []
+-- 0 Inner (1 FullOuter 2): what widens the second Inner predicate's sides, were the earlier join's edge not passed over
+abbrev passedOver : List ℕ
+passedOver = 5 ∷ 24 ∷ 3 ∷ 104 ∷ 4 ∷ 140 ∷ 9 ∷ 16 ∷ 0 ∷ 1 ∷ 9 ∷ 64 ∷ 1 ∷ 1 ∷ 9 ∷ 16 ∷ 2 ∷ 1 ∷ 5 ∷ 0 ∷ 0 ∷ 1 ∷ 0 ∷ 0 ∷ 1 ∷ 2 ∷ 32768 ∷ 3 ∷ 0 ∷ 65536 ∷ 3 ∷ 0 ∷ 32768 ∷ 3 ∷ 1 ∷ 100 ∷ 102 ∷ 100 ∷ 100 ∷ []
 
--- words, stores, limit; then answer, counts, visits, chosen, edges, pairs, costs, kinds
-abbrev table : List Row
-table =
-    row sheetA ample 1000000 0 (2 ∷ 7 ∷ 6 ∷ []) 8 5 edgesA pairsA (192 ∷ 68 ∷ 388 ∷ 404 ∷ []) (9 ∷ 9 ∷ 9 ∷ 0 ∷ 0 ∷ 0 ∷ 0 ∷ [])
-    ∷ row tie ample 1000000 0 (2 ∷ 7 ∷ 6 ∷ []) 8 5 edgesA pairsA (28 ∷ 28 ∷ 52 ∷ 52 ∷ []) (9 ∷ 9 ∷ 9 ∷ 0 ∷ 0 ∷ 0 ∷ 0 ∷ [])
-    ∷ row twoLeaves ample 1000000 0 (1 ∷ 3 ∷ 3 ∷ []) 2 2 (edge 1 2 0 2 0 ∷ []) (pair 1 2 ∷ []) (28 ∷ []) (9 ∷ 9 ∷ 0 ∷ [])
-    ∷ row twoLeaves ample 1 14 (1 ∷ 3 ∷ 3 ∷ []) 1 none32 (edge 1 2 0 2 0 ∷ []) (pair 1 2 ∷ []) (28 ∷ []) (9 ∷ 9 ∷ 0 ∷ [])
-    ∷ row oneLeaf ample 1000000 0 (0 ∷ 1 ∷ 1 ∷ []) 0 0 [] [] [] (9 ∷ [])
-    ∷ row noItems ample 1000000 15 (0 ∷ 0 ∷ 0 ∷ []) 0 none32 [] [] [] []
-    ∷ row withoutPredicates ample 1000000 15 (0 ∷ 2 ∷ 2 ∷ []) 0 none32 [] [] [] (9 ∷ 9 ∷ [])
-    ∷ row crossOfTwo ample 1000000 0 (1 ∷ 3 ∷ 3 ∷ []) 2 2 (edge 1 2 none32 2 0 ∷ []) (pair 1 2 ∷ []) (40 ∷ []) (9 ∷ 9 ∷ 8 ∷ [])
-    ∷ row withoutColumns ample 1000000 0 (2 ∷ 5 ∷ 5 ∷ []) 4 4 (edge 1 2 0 2 0 ∷ edge 3 4 1 4 0 ∷ []) (pair 1 2 ∷ pair 3 4 ∷ []) (68 ∷ 404 ∷ []) (9 ∷ 9 ∷ 9 ∷ 0 ∷ 0 ∷ [])
-    ∷ row outerThenInner ample 1000000 0 (3 ∷ 7 ∷ 6 ∷ []) 8 5 (edge 1 2 0 2 2 ∷ edge 2 4 1 4 0 ∷ edge 3 4 2 4 0 ∷ []) pairsA (40 ∷ 40 ∷ 172 ∷ 172 ∷ []) (9 ∷ 9 ∷ 9 ∷ 0 ∷ 3 ∷ 3 ∷ 0 ∷ [])
-    ∷ row sheetA ample 0 14 (2 ∷ 4 ∷ 4 ∷ []) 0 none32 edgesA (pair 2 4 ∷ []) (192 ∷ []) (9 ∷ 9 ∷ 9 ∷ 0 ∷ [])
-    ∷ row sheetA ample 7 14 (2 ∷ 7 ∷ 6 ∷ []) 7 none32 edgesA pairsA (192 ∷ 68 ∷ 388 ∷ 404 ∷ []) (9 ∷ 9 ∷ 9 ∷ 0 ∷ 0 ∷ 0 ∷ 0 ∷ [])
-    ∷ row sheetA (rooms 256 4 512) 1000000 12 (2 ∷ 4 ∷ 4 ∷ []) 2 none32 edgesA (pair 2 4 ∷ []) (192 ∷ []) (9 ∷ 9 ∷ 9 ∷ 0 ∷ [])
+-- (0 FullOuter 1) Inner 2: the left side is widened
+abbrev leftConflict : List ℕ
+leftConflict = 5 ∷ 24 ∷ 4 ∷ 104 ∷ 8 ∷ 152 ∷ 9 ∷ 16 ∷ 0 ∷ 1 ∷ 9 ∷ 16 ∷ 1 ∷ 1 ∷ 5 ∷ 0 ∷ 0 ∷ 1 ∷ 9 ∷ 48 ∷ 2 ∷ 1 ∷ 0 ∷ 0 ∷ 1 ∷ 3 ∷ 32768 ∷ 3 ∷ 2 ∷ 16384 ∷ 5 ∷ 1 ∷ 32768 ∷ 6 ∷ 1 ∷ 65536 ∷ 7 ∷ 1 ∷ 100 ∷ 101 ∷ 102 ∷ 100 ∷ 101 ∷ 101 ∷ 100 ∷ 100 ∷ []
+
+-- 0 Inner (1 FullOuter 2): the right side is widened
+abbrev rightConflict : List ℕ
+rightConflict = 5 ∷ 24 ∷ 5 ∷ 104 ∷ 10 ∷ 164 ∷ 9 ∷ 48 ∷ 0 ∷ 1 ∷ 9 ∷ 16 ∷ 1 ∷ 1 ∷ 9 ∷ 64 ∷ 2 ∷ 1 ∷ 5 ∷ 0 ∷ 0 ∷ 2 ∷ 0 ∷ 0 ∷ 2 ∷ 3 ∷ 32768 ∷ 3 ∷ 1 ∷ 32768 ∷ 4 ∷ 0 ∷ 65536 ∷ 4 ∷ 2 ∷ 65536 ∷ 6 ∷ 3 ∷ 65536 ∷ 9 ∷ 1 ∷ 100 ∷ 101 ∷ 102 ∷ 101 ∷ 102 ∷ 102 ∷ 100 ∷ 102 ∷ 102 ∷ 100 ∷ []
+
+-- an edge one of whose sides is in two classes merges nothing
+abbrev sideApart : List ℕ
+sideApart = 5 ∷ 24 ∷ 2 ∷ 104 ∷ 6 ∷ 128 ∷ 9 ∷ 64 ∷ 0 ∷ 1 ∷ 9 ∷ 256 ∷ 1 ∷ 1 ∷ 9 ∷ 256 ∷ 2 ∷ 1 ∷ 4 ∷ 0 ∷ 0 ∷ 0 ∷ 0 ∷ 0 ∷ 0 ∷ 2 ∷ 32768 ∷ 3 ∷ 1 ∷ 32768 ∷ 4 ∷ 2 ∷ 100 ∷ 101 ∷ 102 ∷ 100 ∷ 100 ∷ 102 ∷ []
+
+-- a cross product's edge leads, and another edge has a predicate: kind 0
+abbrev crossLead : List ℕ
+crossLead = 5 ∷ 24 ∷ 2 ∷ 104 ∷ 6 ∷ 128 ∷ 9 ∷ 256 ∷ 0 ∷ 1 ∷ 9 ∷ 64 ∷ 1 ∷ 1 ∷ 8 ∷ 0 ∷ 0 ∷ 0 ∷ 9 ∷ 16 ∷ 2 ∷ 1 ∷ 0 ∷ 0 ∷ 0 ∷ 2 ∷ 65536 ∷ 3 ∷ 1 ∷ 16384 ∷ 4 ∷ 2 ∷ 100 ∷ 101 ∷ 102 ∷ 100 ∷ 101 ∷ 102 ∷ []
+
+-- document 01's starred sheets, with all that comes out
+abbrev starredRows : List Row
+starredRows =
+    row sheetA ample defaultLimit 0 8 5
+    (edge 1 2 0 2 0 ∷ edge 2 4 1 4 0 ∷ [])
+    (scan 0 4 4 ∷ scan 1 8 16 ∷ scan 2 16 16 ∷ join 6 1 2 1 0 32 192 ∷ join 3 0 1 0 0 16 68 ∷ join 7 0 3 0 0 64 388 ∷ join 7 4 2 1 0 64 404 ∷ [])
+    (entry 1 0 ∷ entry 2 1 ∷ entry 4 2 ∷ entry 6 3 ∷ entry 3 4 ∷ entry 7 5 ∷ [])
+    (pair 2 4 ∷ pair 1 2 ∷ pair 1 6 ∷ pair 3 4 ∷ [])
+    ∷ row tie ample defaultLimit 0 8 5
+    (edge 1 2 0 2 0 ∷ edge 2 4 1 4 0 ∷ [])
+    (scan 0 4 4 ∷ scan 1 4 4 ∷ scan 2 4 4 ∷ join 6 1 2 1 0 4 28 ∷ join 3 0 1 0 0 4 28 ∷ join 7 0 3 0 0 4 52 ∷ join 7 4 2 1 0 4 52 ∷ [])
+    (entry 1 0 ∷ entry 2 1 ∷ entry 4 2 ∷ entry 6 3 ∷ entry 3 4 ∷ entry 7 5 ∷ [])
+    (pair 2 4 ∷ pair 1 2 ∷ pair 1 6 ∷ pair 3 4 ∷ [])
+    ∷ row twoLeaves ample defaultLimit 0 2 2
+    (edge 1 2 0 2 0 ∷ [])
+    (scan 0 4 4 ∷ scan 1 4 4 ∷ join 3 0 1 0 0 4 28 ∷ [])
+    (entry 1 0 ∷ entry 2 1 ∷ entry 3 2 ∷ [])
+    (pair 1 2 ∷ [])
+    ∷ row twoLeaves ample 1 14 1 none32
+    (edge 1 2 0 2 0 ∷ [])
+    (scan 0 4 4 ∷ scan 1 4 4 ∷ join 3 0 1 0 0 4 28 ∷ [])
+    (entry 1 0 ∷ entry 2 1 ∷ entry 3 2 ∷ [])
+    (pair 1 2 ∷ [])
+    ∷ row oneLeaf ample defaultLimit 0 0 0
+    ([])
+    (scan 0 4 4 ∷ [])
+    (entry 1 0 ∷ [])
+    ([])
+    ∷ row noItems ample defaultLimit 15 0 none32
+    ([])
+    ([])
+    ([])
+    ([])
+    ∷ row withoutPredicates ample defaultLimit 15 0 none32
+    ([])
+    (scan 0 4 4 ∷ scan 1 4 4 ∷ [])
+    (entry 1 0 ∷ entry 2 1 ∷ [])
+    ([])
+    ∷ row crossOfTwo ample defaultLimit 0 2 2
+    (edge 1 2 none32 2 0 ∷ [])
+    (scan 0 4 4 ∷ scan 1 4 4 ∷ join 3 0 1 0 8 16 40 ∷ [])
+    (entry 1 0 ∷ entry 2 1 ∷ entry 3 2 ∷ [])
+    (pair 1 2 ∷ [])
+    ∷ row withoutColumns ample defaultLimit 0 4 4
+    (edge 1 2 0 2 0 ∷ edge 3 4 1 4 0 ∷ [])
+    (scan 0 4 4 ∷ scan 1 8 16 ∷ scan 2 16 16 ∷ join 3 0 1 0 0 16 68 ∷ join 7 3 2 1 0 64 404 ∷ [])
+    (entry 1 0 ∷ entry 2 1 ∷ entry 4 2 ∷ entry 3 3 ∷ entry 7 4 ∷ [])
+    (pair 1 2 ∷ pair 3 4 ∷ [])
+    ∷ row outerThenInner ample defaultLimit 0 8 5
+    (edge 1 2 0 2 2 ∷ edge 2 4 1 4 0 ∷ edge 3 4 2 4 0 ∷ [])
+    (scan 0 4 4 ∷ scan 1 4 4 ∷ scan 2 4 4 ∷ join 6 1 2 1 0 4 28 ∷ join 3 0 1 0 3 8 32 ∷ join 7 0 3 0 3 8 56 ∷ join 7 4 2 1 0 1 69 ∷ [])
+    (entry 1 0 ∷ entry 2 1 ∷ entry 4 2 ∷ entry 6 3 ∷ entry 3 4 ∷ entry 7 5 ∷ [])
+    (pair 2 4 ∷ pair 1 2 ∷ pair 1 6 ∷ pair 3 4 ∷ [])
     ∷ []
+
+-- stores and limits met, and points of edge building and search that the starred sheets leave open
+abbrev furtherRows : List Row
+furtherRows =
+    row sheetA ample 0 14 0 none32
+    (edge 1 2 0 2 0 ∷ edge 2 4 1 4 0 ∷ [])
+    (scan 0 4 4 ∷ scan 1 8 16 ∷ scan 2 16 16 ∷ join 6 1 2 1 0 32 192 ∷ [])
+    (entry 1 0 ∷ entry 2 1 ∷ entry 4 2 ∷ entry 6 3 ∷ [])
+    (pair 2 4 ∷ [])
+    ∷ row sheetA ample 7 14 7 none32
+    (edge 1 2 0 2 0 ∷ edge 2 4 1 4 0 ∷ [])
+    (scan 0 4 4 ∷ scan 1 8 16 ∷ scan 2 16 16 ∷ join 6 1 2 1 0 32 192 ∷ join 3 0 1 0 0 16 68 ∷ join 7 0 3 0 0 64 388 ∷ join 7 4 2 1 0 64 404 ∷ [])
+    (entry 1 0 ∷ entry 2 1 ∷ entry 4 2 ∷ entry 6 3 ∷ entry 3 4 ∷ entry 7 5 ∷ [])
+    (pair 2 4 ∷ pair 1 2 ∷ pair 1 6 ∷ pair 3 4 ∷ [])
+    ∷ row sheetA (rooms 256 4 512) defaultLimit 12 2 none32
+    (edge 1 2 0 2 0 ∷ edge 2 4 1 4 0 ∷ [])
+    (scan 0 4 4 ∷ scan 1 8 16 ∷ scan 2 16 16 ∷ join 6 1 2 1 0 32 192 ∷ [])
+    (entry 1 0 ∷ entry 2 1 ∷ entry 4 2 ∷ entry 6 3 ∷ [])
+    (pair 2 4 ∷ [])
+    ∷ row sheetA (rooms 256 1088 4) defaultLimit 13 2 none32
+    (edge 1 2 0 2 0 ∷ edge 2 4 1 4 0 ∷ [])
+    (scan 0 4 4 ∷ scan 1 8 16 ∷ scan 2 16 16 ∷ join 6 1 2 1 0 32 192 ∷ [])
+    (entry 1 0 ∷ entry 2 1 ∷ entry 4 2 ∷ entry 6 3 ∷ [])
+    (pair 2 4 ∷ [])
+    ∷ row sheetA (rooms 256 4 4) defaultLimit 12 2 none32
+    (edge 1 2 0 2 0 ∷ edge 2 4 1 4 0 ∷ [])
+    (scan 0 4 4 ∷ scan 1 8 16 ∷ scan 2 16 16 ∷ join 6 1 2 1 0 32 192 ∷ [])
+    (entry 1 0 ∷ entry 2 1 ∷ entry 4 2 ∷ entry 6 3 ∷ [])
+    (pair 2 4 ∷ [])
+    ∷ row replaced ample defaultLimit 0 8 6
+    (edge 1 2 0 2 0 ∷ edge 2 4 1 4 0 ∷ [])
+    (scan 0 4 4 ∷ scan 1 8 16 ∷ scan 2 16 16 ∷ join 6 1 2 1 0 128 288 ∷ join 3 0 1 0 0 8 60 ∷ join 7 0 3 0 0 128 932 ∷ join 7 4 2 1 0 128 332 ∷ [])
+    (entry 1 0 ∷ entry 2 1 ∷ entry 4 2 ∷ entry 6 3 ∷ entry 3 4 ∷ entry 7 6 ∷ [])
+    (pair 2 4 ∷ pair 1 2 ∷ pair 1 6 ∷ pair 3 4 ∷ [])
+    ∷ row rightOuter ample defaultLimit 0 8 5
+    (edge 2 4 0 3 2 ∷ edge 1 4 0 4 0 ∷ [])
+    (scan 0 4 4 ∷ scan 1 4 4 ∷ scan 2 4 4 ∷ join 6 1 2 0 4 8 32 ∷ join 5 0 2 1 0 8 32 ∷ join 7 0 3 1 0 16 84 ∷ join 7 4 1 0 4 16 84 ∷ [])
+    (entry 1 0 ∷ entry 2 1 ∷ entry 4 2 ∷ entry 6 3 ∷ entry 5 4 ∷ entry 7 5 ∷ [])
+    (pair 2 4 ∷ pair 1 4 ∷ pair 1 6 ∷ pair 5 2 ∷ [])
+    ∷ row passedOver ample defaultLimit 0 12 7
+    (edge 2 4 0 3 4 ∷ edge 1 6 1 4 0 ∷ edge 1 4 2 4 0 ∷ [])
+    (scan 0 16 16 ∷ scan 1 64 64 ∷ scan 2 16 16 ∷ join 6 1 2 0 5 512 1616 ∷ join 5 0 2 2 0 128 416 ∷ join 7 0 3 1 0 4096 13920 ∷ join 7 0 3 1 0 4096 13920 ∷ join 7 4 1 0 5 4096 12768 ∷ [])
+    (entry 1 0 ∷ entry 2 1 ∷ entry 4 2 ∷ entry 6 3 ∷ entry 5 4 ∷ entry 7 7 ∷ [])
+    (pair 2 4 ∷ pair 1 4 ∷ pair 1 6 ∷ pair 1 6 ∷ pair 5 2 ∷ [])
+    ∷ row leftConflict ample defaultLimit 0 12 5
+    (edge 1 2 0 2 4 ∷ edge 2 4 1 4 0 ∷ edge 1 4 2 4 0 ∷ edge 3 4 3 4 0 ∷ [])
+    (scan 0 16 16 ∷ scan 1 16 16 ∷ scan 2 48 48 ∷ join 6 1 2 1 0 192 1024 ∷ join 5 0 2 2 0 384 1216 ∷ join 7 0 3 0 5 768 4880 ∷ join 3 0 1 0 5 128 416 ∷ join 7 0 3 0 5 768 4880 ∷ join 7 6 2 1 0 768 7376 ∷ join 7 4 1 0 5 768 8144 ∷ [])
+    (entry 1 0 ∷ entry 2 1 ∷ entry 4 2 ∷ entry 6 3 ∷ entry 5 4 ∷ entry 7 5 ∷ entry 3 6 ∷ [])
+    (pair 2 4 ∷ pair 1 4 ∷ pair 1 6 ∷ pair 1 2 ∷ pair 1 6 ∷ pair 3 4 ∷ pair 5 2 ∷ [])
+    ∷ row rightConflict ample defaultLimit 0 12 5
+    (edge 2 4 0 3 4 ∷ edge 2 4 1 3 4 ∷ edge 1 4 2 4 0 ∷ edge 1 6 3 4 0 ∷ edge 1 6 4 4 0 ∷ [])
+    (scan 0 48 48 ∷ scan 1 16 16 ∷ scan 2 64 64 ∷ join 6 1 2 0 5 256 1360 ∷ join 5 0 2 2 0 3072 6256 ∷ join 7 0 3 2 0 12288 25984 ∷ join 7 0 3 2 0 12288 25984 ∷ join 7 4 1 0 5 12288 67712 ∷ [])
+    (entry 1 0 ∷ entry 2 1 ∷ entry 4 2 ∷ entry 6 3 ∷ entry 5 4 ∷ entry 7 5 ∷ [])
+    (pair 2 4 ∷ pair 1 4 ∷ pair 1 6 ∷ pair 1 6 ∷ pair 5 2 ∷ [])
+    ∷ row sideApart ample defaultLimit 15 6 none32
+    (edge 1 6 0 4 0 ∷ edge 1 4 1 4 0 ∷ [])
+    (scan 0 64 64 ∷ scan 1 256 256 ∷ scan 2 256 256 ∷ join 5 0 2 1 0 8192 24896 ∷ [])
+    (entry 1 0 ∷ entry 2 1 ∷ entry 4 2 ∷ entry 5 3 ∷ [])
+    (pair 1 4 ∷ [])
+    ∷ row crossLead ample defaultLimit 0 12 5
+    (edge 1 2 none32 2 0 ∷ edge 1 4 0 4 0 ∷ edge 2 4 1 4 0 ∷ [])
+    (scan 0 256 256 ∷ scan 1 64 64 ∷ scan 2 16 16 ∷ join 6 1 2 2 0 256 1360 ∷ join 5 0 2 1 0 4096 8464 ∷ join 7 0 3 0 0 65536 132688 ∷ join 3 0 1 0 8 16384 33088 ∷ join 7 0 3 0 0 65536 132688 ∷ join 7 6 2 1 0 65536 360784 ∷ join 7 4 1 0 0 65536 336208 ∷ [])
+    (entry 1 0 ∷ entry 2 1 ∷ entry 4 2 ∷ entry 6 3 ∷ entry 5 4 ∷ entry 7 5 ∷ entry 3 6 ∷ [])
+    (pair 2 4 ∷ pair 1 4 ∷ pair 1 6 ∷ pair 1 2 ∷ pair 1 6 ∷ pair 3 4 ∷ pair 5 2 ∷ [])
+    ∷ []
+
+abbrev table : List Row
+table = starredRows ++ furtherRows
 
 -- every row's outcome is the expected one
 pub starred : map outcome table ≡ map (λ (r : Row). r .expected) table

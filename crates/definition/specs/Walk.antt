@@ -1,7 +1,7 @@
--- Document 01, 'Order': `solve`, `emit_csg`, `enumerate_csg_rec`, `enumerate_cmp_rec`. The walk of the search over pairs of sets, over any
--- state with three operations: is a plan kept for a set; visit one subset (document 01: one look); try a pair (`emit_csg_cmp`). A stopped state
--- is changed by neither of the last two, so the walk has no test for a stop.
-use Prim.Native.Nat.{ℕ, zero, suc, _-_}
+-- Document 01, 'Plans and memo': "Order: `solve`, `emit_csg`, `enumerate_csg_rec`, `enumerate_cmp_rec`, `emit_csg_cmp`." The walk of the search
+-- over pairs of sets, over any state with three operations: is a plan kept for a set; visit one subset (document 01: look); try a pair
+-- (`emit_csg_cmp`). A stopped state is changed by neither of the last two, so the walk has no test for a stop.
+use Prim.Native.Nat.{ℕ, zero, suc}
 use mathlib.Core.Bool.{Bool, true, false, _&&_}
 use mathlib.Core.List.{List, [], _∷_}
 use lib.Bits.{bitOr}
@@ -18,7 +18,8 @@ module _ (es : List Edge) (S : Type 0) (kept : S → ℕ → Bool) (visit : S �
   abbrev pub tryConnected : ℕ → ℕ → S → S
   tryConnected s1 c st = elim (kept st c && hasEdge es s1 c) [ true ↦ attempt s1 c st | false ↦ st ]
 
-  -- d: how much deeper it may go. Each level adds a leaf to x, so the number of leaves is enough: `cmp-depth`
+  -- "One look is one subset visited, in either pass of either recursive function": counted before the memo is asked. d: how much deeper it may
+  -- go. Each level adds a leaf to x, so the number of leaves is enough: `solve-depth`
   unfoldable pub enumerateCmpRec : ℕ → ℕ → ℕ → ℕ → S → S
   enumerateCmpRec zero s1 s2 x st = st
   enumerateCmpRec (suc d) s1 s2 x st =
@@ -30,7 +31,7 @@ module _ (es : List Edge) (S : Type 0) (kept : S → ℕ → Bool) (visit : S �
   abbrev pub tryEdge : ℕ → ℕ → S → S
   tryEdge s1 s2 st = elim (hasEdge es s1 s2) [ true ↦ attempt s1 s2 st | false ↦ st ]
 
-  -- "Neighbours come highest first"
+  -- "Neighbours come highest first". x: s1, and all leaves up to its lowest (`b_min`)
   unfoldable pub emitCsg : ℕ → ℕ → S → S
   emitCsg d s1 st =
       let x = bitOr s1 (upToLowest s1) in
