@@ -11,19 +11,21 @@ compare)
     "$here/target/oracle-counted" compare
     ;;
 vectors)
-    folder=${2:-$here/vectors}
-    "$here/target/oracle" vectors "$folder"
-    # The counted copy writes the same, and holds the looks in it to its own.
-    "$here/target/oracle-counted" vectors "$here/target/vectors" >/dev/null
+    made="$here/target/vectors"
+    "$here/target/oracle" vectors "$made/unchanged"
+    # The counted copy writes the same, and holds the visits in it to its own.
+    "$here/target/oracle-counted" vectors "$made/counted" >/dev/null
     for file in calls.bin checks.bin; do
-        cmp "$folder/$file" "$here/target/vectors/$file"
+        cmp "$made/unchanged/$file" "$made/counted/$file"
     done
+    cp "$made/unchanged/calls.bin" "$here/vectors/calls.bin"
+    cp "$made/unchanged/checks.bin" "$here/../crates/sheet_vectors/stdin"
     ;;
 survey | plan)
     "$here/target/oracle" "$@"
     ;;
 *)
-    echo "usage: run.sh compare | survey | vectors [folder] | plan [word...]" >&2
+    echo "usage: run.sh compare | survey | vectors | plan [word...]" >&2
     exit 2
     ;;
 esac

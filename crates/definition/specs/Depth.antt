@@ -25,7 +25,7 @@ use Rattle.definition.specs.WalkLaws.{Sided, neighborhood-apart, neighbo
 half-apart : (a b : ℕ) → Apart a b → Apart (a / 2) (b / 2)
 half-apart a b h i = ap₂ min (sym (bit-suc a i)) (sym (bit-suc b i)) ∙ h (suc i)
 
-ones-or : (a b : ℕ) → Apart a b → ones (bitOr a b) ≡ ones a + ones b
+pub ones-or : (a b : ℕ) → Apart a b → ones (bitOr a b) ≡ ones a + ones b
 unfolding ones
 ones-or =
     bin-ind (λ (a : ℕ). (b : ℕ) → Apart a b → ones (bitOr a b) ≡ ones a + ones b) (λ b h. sym (zero-add (ones b)))

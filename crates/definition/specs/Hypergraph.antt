@@ -1,5 +1,5 @@
 -- Edges, and what the search asks of them. No row count and no selectivity occurs here but in `selectivitiesOf`.
-use Prim.Native.Nat.{ℕ, suc}
+use Prim.Native.Nat.{ℕ, suc, _^_, _<_}
 use mathlib.Core.Bool.{Bool, true, false, _&&_, _||_, not}
 use mathlib.Core.List.{List, [], _∷_}
 use lib.ListN.{getD}
@@ -14,6 +14,13 @@ pub record Edge : Type 0 where
   pub predicate : ℕ
   pub source : ℕ
   pub type : ℕ
+
+-- both sides have a leaf, and are sets of 64 digits: so are all that edge building makes
+pub record Sided (e : Edge) : Type 0 where
+  pub left-some : 0 < e .left
+  pub left-set : e .left < 2 ^ 64
+  pub right-some : 0 < e .right
+  pub right-set : e .right < 2 ^ 64
 
 -- none, for a predicate, a lead edge or a chosen plan
 abbrev pub none32 : ℕ

@@ -1,13 +1,13 @@
 -- Laws of the lists of Lists.antt. Assumes nothing.
-use mathlib.Core.Path.{_≡_, refl, sym, ap, ap₂, _∙_, subst}
+use mathlib.Core.Path.{_≡_, refl, sym, ap, ap₂, _∙_}
 use mathlib.Core.Logic.{inl, inr}
 use mathlib.Core.List.{List, [], _∷_, _++_, map, map-append}
 use Prim.Native.Nat.{ℕ, zero, suc, _+_, _≤_, _<_}
 use native.Mathlib.Nat.{le-refl, le-trans, le-suc, eq-or-lt-of-le, le-of-suc-le-suc, not-suc-le-zero}
 use native.Mathlib.Numerals.{add-one}
 use native.Mathlib.Omega.{arith}
-use lib.ListN.{length, getD, take, drop, length-append}
-use lib.Seq.{take-suc, drop-append-le, drop-length}
+use lib.ListN.{length, getD, take, drop, length-append, List·getD-append}
+use lib.Seq.{take-suc, drop-length, drop-cons, getD-at}
 use Rattle.definition.specs.Lists.{tabulate}
 
 module _ {A : Type 0} where
@@ -16,36 +16,30 @@ module _ {A : Type 0} where
   length-tabulate zero f = refl
   length-tabulate (suc n) f = length-append (tabulate n f) (f n ∷ []) ∙ ap (λ (k : ℕ). k + 1) (length-tabulate n f) ∙ add-one n
 
-  -- one member more, the others unchanged
+  -- the list depends on the function's values below n alone
   pub tabulate-same : (n : ℕ) (f g : ℕ → A) → ((i : ℕ) → i < n → f i ≡ g i) → tabulate n f ≡ tabulate n g
   unfolding tabulate
   tabulate-same zero f g e = refl
   tabulate-same (suc n) f g e = ap₂ (λ (l : List A) (x : A). l ++ (x ∷ [])) (tabulate-same n f g (λ i h. e i (le-trans h (le-suc n)))) (e n (le-refl (suc n)))
 
+  -- one more member, the others unchanged
   pub tabulate-more : (n : ℕ) (f g : ℕ → A) → ((i : ℕ) → i < n → f i ≡ g i) → tabulate (n + 1) f ≡ tabulate n g ++ (f n ∷ [])
   unfolding tabulate
   tabulate-more n f g e = ap (λ (k : ℕ). tabulate k f) (add-one n) ∙ ap (λ (l : List A). l ++ (f n ∷ [])) (tabulate-same n f g e)
 
+  pub getD-tabulate : (n : ℕ) (f : ℕ → A) (i : ℕ) (d : A) → i < n → getD (tabulate n f) i d ≡ f i
+  unfolding tabulate
+  getD-tabulate zero f i d h = absurd (not-suc-le-zero h)
+  getD-tabulate (suc n) f i d h =
+      elim (eq-or-lt-of-le (le-of-suc-le-suc h)) [
+        | inl e ↦ rw e (getD-at (tabulate n f) (f n) [] d n (length-tabulate n f))
+        | inr l ↦ List·getD-append (tabulate n f) (f n ∷ []) d i (omega (arith, length-tabulate n f)) ∙ getD-tabulate n f i d l
+      ]
+
   -- the members from i on
   pub tabulate-at : (n : ℕ) (f : ℕ → A) (i : ℕ) → i < n → drop i (tabulate n f) ≡ f i ∷ drop (suc i) (tabulate n f)
-  unfolding tabulate
-  tabulate-at zero f i h = absurd (not-suc-le-zero h)
-  tabulate-at (suc n) f i h =
-      elim (eq-or-lt-of-le (le-of-suc-le-suc h)) [
-        | inl e ↦ last i e
-        | inr l ↦
-            drop-append-le i (tabulate n f) (f n ∷ []) (omega (arith, length-tabulate n f)) ∙ ap (λ (k : List A). k ++ (f n ∷ [])) (tabulate-at n f i l)
-            ∙ ap (λ (k : List A). f i ∷ k) (sym (drop-append-le (suc i) (tabulate n f) (f n ∷ []) (omega (arith, length-tabulate n f))))
-      ]
-    where
-      last : (i : ℕ) → i ≡ n → drop i (tabulate n f ++ (f n ∷ [])) ≡ f i ∷ drop (suc i) (tabulate n f ++ (f n ∷ []))
-      last i e =
-          subst (λ (k : ℕ). drop k (tabulate n f ++ (f n ∷ [])) ≡ f k ∷ drop (suc k) (tabulate n f ++ (f n ∷ []))) (sym e)
-          (subst (λ (k : ℕ). drop k (tabulate n f ++ (f n ∷ [])) ≡ f n ∷ drop (suc k) (tabulate n f ++ (f n ∷ []))) (length-tabulate n f) (seam (tabulate n f) (f n)))
-        where
-          seam : (xs : List A) (y : A) → drop (length xs) (xs ++ (y ∷ [])) ≡ y ∷ drop (suc (length xs)) (xs ++ (y ∷ []))
-          seam [] y = refl
-          seam (x ∷ xs) y = seam xs y
+  tabulate-at n f i h =
+      drop-cons (tabulate n f) i (f i) (omega (arith, length-tabulate n f)) ∙ ap (λ (x : A). x ∷ drop (suc i) (tabulate n f)) (getD-tabulate n f i (f i) h)
 
   pub tabulate-end : (n : ℕ) (f : ℕ → A) → drop n (tabulate n f) ≡ []
   tabulate-end n f = ap (λ (k : ℕ). drop k (tabulate n f)) (sym (length-tabulate n f)) ∙ drop-length (tabulate n f)

@@ -2,25 +2,23 @@
 use mathlib.Core.Path.{_≡_, refl, sym, ap, ap₂, _∙_, subst}
 use Prim.Native.Nat.{ℕ, zero, suc, _+_}
 use mathlib.Core.Bool.{Bool, true, false, _||_, false≢true}
-use mathlib.Core.List.{List, [], _∷_, _++_, map, map-append}
+use mathlib.Core.List.{List, [], _∷_, _++_}
 use mathlib.Core.Option.{Option, none, some}
 use native.Mathlib.Nat.{suc-ne-zero, suc-inj}
 use lib.ListN.{length, length-append, length-map}
 use lib.Dec.{eqb, ltb}
 use lib.Bits.{bitOr}
-use borrow.Author.Tests.{eqb-true}
 use Rattle.nodeset.specs.Sets.{singleton, allBelow}
 use Rattle.nodeset.specs.SetLaws.{Apart}
 use Rattle.nodeset.specs.SubsetLaws.{All}
+use Rattle.definition.specs.Lists.{member}
 use Rattle.definition.specs.Answers.{plansFull, memoFull, visitsSpent}
 use Rattle.definition.specs.Hypergraph.{Edge, connecting}
-use Rattle.definition.specs.Cost.{cheaper}
 use Rattle.definition.specs.Walk.{solve}
 use Rattle.definition.specs.WalkLaws.{Sided, elim-rel, solve-rel}
-use Rattle.definition.specs.Search.{Leaf, Plan, Entry, Pair, Input, State, find, isSome, replace, kept, planAt, stopped, visit, noted, added, stored, joined, candidate, attempt, leafPlans, leafEntries, start, search, complete, ending}
-
-abbrev pub setsOf : List Entry → List ℕ
-setsOf = map (λ (e : Entry). e .set)
+pub use Rattle.definition.specs.MemoLaws.{setsOf}
+use Rattle.definition.specs.MemoLaws.{find-member, sets-noted, leafPlans-length}
+use Rattle.definition.specs.Search.{Leaf, Plan, Entry, Pair, Input, State, find, isSome, kept, stopped, visit, added, stored, joined, candidate, attempt, leafEntries, start, search, complete, ending}
 
 -- two inputs that differ at most in row counts, column counts of leaves, kinds and selectivities
 pub record SameForm (i j : Input) : Type 0 where
@@ -40,44 +38,11 @@ pub record SameOpen (s t : State) : Type 0 where
 
 -- ---- the memo's sets decide what is kept, and how many entries there are
 
-has : List ℕ → ℕ → Bool
-has [] s = false
-has (x ∷ xs) s = elim (eqb x s) [ true ↦ true | false ↦ has xs s ]
-
-find-has : (m : List Entry) (s : ℕ) → isSome (find m s) ≡ has (setsOf m) s
-unfolding has find
-find-has [] s = refl
-find-has (e ∷ m) s = go (eqb (e .set) s) (find-has m s)
-  where
-    go : (b : Bool) → isSome (find m s) ≡ has (setsOf m) s
-        → isSome {A = ℕ} (elim b [ true ↦ some (e .plan) | false ↦ find m s ]) ≡ elim b [ true ↦ true | false ↦ has (setsOf m) s ]
-    go true h = refl
-    go false h = h
-
 kept-same : (s t : State) → SameOpen s t → (a : ℕ) → kept s a ≡ kept t a
-kept-same s t r a = find-has (s .memo) a ∙ ap (λ (l : List ℕ). has l a) (r .memo) ∙ sym (find-has (t .memo) a)
+kept-same s t r a = find-member (s .memo) a ∙ ap (member a) (r .memo) ∙ sym (find-member (t .memo) a)
 
 memo-length : (s t : State) → SameOpen s t → length (s .memo) ≡ length (t .memo)
 memo-length s t r = sym (length-map (s .memo) (λ (e : Entry). e .set)) ∙ ap length (r .memo) ∙ length-map (t .memo) (λ (e : Entry). e .set)
-
-sets-replace : (m : List Entry) (s n : ℕ) → setsOf (replace m s n) ≡ setsOf m
-unfolding replace
-sets-replace [] s n = refl
-sets-replace (e ∷ m) s n = go (eqb (e .set) s) (eqb-true (e .set) s) (sets-replace m s n)
-  where
-    go : (b : Bool) → (b ≡ true → e .set ≡ s) → setsOf (replace m s n) ≡ setsOf m
-        → setsOf (elim b [ true ↦ record { set = s; plan = n } ∷ m | false ↦ e ∷ replace m s n ]) ≡ e .set ∷ setsOf m
-    go true q h = ap (λ (x : ℕ). x ∷ setsOf m) (sym (q refl))
-    go false q h = ap (λ (l : List ℕ). e .set ∷ l) h
-
-sets-noted : (st : State) (s n : ℕ) (p : Plan) (o : Option ℕ) → setsOf (noted st s n p o) ≡ elim (isSome o) [ true ↦ setsOf (st .memo) | false ↦ setsOf (st .memo) ++ (s ∷ []) ]
-unfolding noted
-sets-noted st s n p none = map-append (λ (e : Entry). e .set) (st .memo) _
-sets-noted st s n p (some o) = go (cheaper (p .estimate) (planAt st o .estimate))
-  where
-    go : (b : Bool) → setsOf (elim b [ true ↦ replace (st .memo) s n | false ↦ st .memo ]) ≡ setsOf (st .memo)
-    go true = sets-replace (st .memo) s n
-    go false = refl
 
 -- ---- the operations
 
@@ -145,11 +110,6 @@ module _ (i j : Input) (f : SameForm i j) where
   entries-same n [] (m ∷ ms) e = absurd (suc-ne-zero _ (sym e))
   entries-same n (l ∷ ls) [] e = absurd (suc-ne-zero _ e)
   entries-same n (l ∷ ls) (m ∷ ms) e = ap (λ (x : List ℕ). singleton n ∷ x) (entries-same (suc n) ls ms (suc-inj e))
-
-  leafPlans-length : (n : ℕ) (ls : List Leaf) → length (leafPlans n ls) ≡ length ls
-  unfolding leafPlans
-  leafPlans-length n [] = refl
-  leafPlans-length n (l ∷ ls) = ap suc (leafPlans-length (suc n) ls)
 
   start-same : SameOpen (start i) (start j)
   unfolding start

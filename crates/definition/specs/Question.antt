@@ -2,7 +2,7 @@
 use Prim.Native.Nat.{ℕ, zero, suc, _+_, _-_}
 use mathlib.Core.Bool.{Bool, true, false}
 use mathlib.Core.List.{List, [], _∷_, map}
-use lib.ListN.{length, take, drop}
+use lib.ListN.{length, getD, take, drop}
 use lib.Dec.{eqb, leb, ltb}
 
 pub record Range : Type 0 where
@@ -41,6 +41,13 @@ pub record Question : Type 0 where
   pub items : List Item
   pub predicates : List Predicate
   pub columns : List ℕ
+
+-- item i and predicate i; past the end, one that names nothing
+abbrev pub item : Question → ℕ → Item
+item q i = getD (q .items) i (record { kind = inner; rows = 0; range = record { first = 0; count = 0 } })
+
+abbrev pub predicate : Question → ℕ → Predicate
+predicate q i = getD (q .predicates) i (record { selectivity = 0; range = record { first = 0; count = 0 } })
 
 -- ---- the open question: no row counts, no selectivities
 

@@ -89,9 +89,9 @@ headerChecks bs =
     ∷ check (not (eqb (length bs) (columnOffset bs + 4 * columnCount bs))) misplaced
     ∷ []
 
--- the words that should be 0: of a join the first after its kind, of a cross product all three
-abbrev pub reserved : Item → Bool
-reserved i =
+-- a word that should be 0 isn't: of a join the first after its kind, of a cross product any of the three
+abbrev pub reservedIsSet : Item → Bool
+reservedIsSet i =
     not (eqb (i .kind) leaf) && not (eqb (i .rows) 0)
     || eqb (i .kind) crossProduct && (not (eqb (i .range .first) 0) || not (eqb (i .range .count) 0))
 
@@ -103,7 +103,7 @@ tableLength q i = elim (eqb (i .kind) leaf) [ true ↦ length (q .columns) | fal
 abbrev pub itemChecks : Question → Item → List Check
 itemChecks q i =
     check (ltb leaf (i .kind)) unknownKind
-    ∷ check (reserved i) reservedNotZero
+    ∷ check (reservedIsSet i) reservedNotZero
     ∷ check (not (fits (i .range) (tableLength q i))) rangePastTable
     ∷ []
 
@@ -122,7 +122,8 @@ walkChecks q =
     ∷ []
 
 unfoldable pub questionAnswer : Question → ℕ
-questionAnswer q = firstFailing (concatMap (itemChecks q) (q .items) ++ concatMap (predicateChecks q) (q .predicates) ++ walkChecks q)
+questionAnswer q =
+    firstFailing (concatMap (itemChecks q) (q .items) ++ (concatMap (predicateChecks q) (q .predicates) ++ walkChecks q))
 
 -- the sheet check's answer: 1 to 9, or 0 where the sheet passes
 unfoldable pub sheetAnswer : List ℕ → ℕ

@@ -17,16 +17,10 @@ use Rattle.nodeset.specs.Subsets.{nonEmptySubsets, singletons}
 use Rattle.nodeset.specs.SubsetLaws.{All, subsets-in}
 use Rattle.nodeset.specs.SingletonLaws.{singletons-in}
 use Rattle.definition.specs.Hypergraph.{Edge, beyond, neighborhood, hasEdge}
+pub use Rattle.definition.specs.Hypergraph.{Sided}
 use Rattle.definition.specs.Walk.{each, tryConnected, enumerateCmpRec, tryEdge, emitCsg, emitKept, enumerateCsgRec, solveFrom, solve}
 
 -- ---- neighbours
-
--- both sides of an edge have a leaf, and are sets of 64 digits
-pub record Sided (e : Edge) : Type 0 where
-  pub left-some : 0 < e .left
-  pub left-set : e .left < 2 ^ 64
-  pub right-some : 0 < e .right
-  pub right-set : e .right < 2 ^ 64
 
 and-last : (a b : Bool) → T (a && b) → T b
 and-last true b t = t

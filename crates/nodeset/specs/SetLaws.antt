@@ -13,6 +13,7 @@ use lib.Count.{trailingZeros, leadingZeros, leading-top, under}
 use lib.Dec.{eqb, ltb}
 use borrow.Author.Tests.{lt-ltb, le-ltb, eq-eqb, ne-eqb, eqb-true, eqb-false}
 use Rattle.nodeset.specs.Sets.{bit, singleton, lowest, highest, allBelow}
+pub use Rattle.nodeset.specs.Sets.{Apart, In}
 
 two-pos : 0 < 2
 two-pos = zero-lt-suc 1
@@ -257,13 +258,7 @@ lowest-of s p h = lowest-is 64 s p h
 pub highest-of : (s : ℕ) → 0 < s → s < 2 ^ 64 → Highest 64 s (highest s)
 highest-of s p h = rw (highest-at s (λ e. omega arith)) (highest-is 64 s p h)
 
--- ---- no leaf in common; every leaf of a in b
-
-abbrev pub Apart : ℕ → ℕ → Type 0
-Apart a b = (i : ℕ) → min (bit a i) (bit b i) ≡ 0
-
-abbrev pub In : ℕ → ℕ → Type 0
-In a b = (i : ℕ) → bit a i ≤ bit b i
+-- ---- Apart and In, by the tests
 
 pub bit-empty : (i : ℕ) → bit 0 i ≡ 0
 bit-empty i = bit-high 0 0 i (le-refl 1) zero-le

@@ -1,6 +1,7 @@
 -- Sets of leaves. Document 01: "A set is 64 bits, bit i for leaf i." A set is a number below 2 ^ 64; `bitAnd` and `bitOr` of
 -- lib.Bits are intersection and union.
-use Prim.Native.Nat.{ℕ, zero, suc, _+_, _-_, _/_, _%_, _^_, min}
+use mathlib.Core.Path.{_≡_}
+use Prim.Native.Nat.{ℕ, _+_, _-_, _/_, _%_, _^_, _≤_, min}
 use mathlib.Core.Bool.{Bool, true, false}
 use lib.Dec.{eqb, ltb}
 use lib.Bits.{bitAnd}
@@ -40,3 +41,10 @@ allBelow n = 2 ^ min n 64 - 1
 -- all leaves up to the lowest of s
 unfoldable pub upToLowest : ℕ → ℕ
 upToLowest s = allBelow (lowest s + 1)
+
+-- the same of single leaves: no leaf in common; every leaf of a in b
+abbrev pub Apart : ℕ → ℕ → Type 0
+Apart a b = (i : ℕ) → min (bit a i) (bit b i) ≡ 0
+
+abbrev pub In : ℕ → ℕ → Type 0
+In a b = (i : ℕ) → bit a i ≤ bit b i
