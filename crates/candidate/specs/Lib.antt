@@ -1,2 +1,5 @@
 pub mod Store
+pub mod Held
 pub mod Laws
+pub mod MemoHeld
+pub mod CandidateHeld
