@@ -188,16 +188,16 @@ module _ (g : Given) (ls : List Leaf) (limit : ℕ) (h : Lists) (room : Roomy g 
             let q = length-append (st .plans) (p ∷ []) in
             sym (attempt-make g a b H P (due-place g H P a b s0 el er (over (c ∷ cs) ec) lead-some roomy kind-is estimate-from refl es') refl)
             ∙ ap₂ (λ (x : Lists) (y : DPhyp). store x y)
-              (lists-eq
-              (put (λ (x : Plan). x .set) (st .plans) p (h .pset) 0 (omega (arith, room .pset)))
-              (put (λ (x : Plan). x .left) (st .plans) p (h .pleft) 0 (omega (arith, room .pleft)))
-              (put (λ (x : Plan). x .right) (st .plans) p (h .pright) 0 (omega (arith, room .pright)))
-              (put (λ (x : Plan). x .lead) (st .plans) p (h .plead) 0 (omega (arith, room .plead)))
-              (put (λ (x : Plan). x .kind) (st .plans) p (h .pkind) 0 (omega (arith, room .pkind)))
-              (put (λ (x : Plan). x .estimate .rows) (st .plans) p (h .prows) S.zero (omega (arith, room .prows)))
-              (put (λ (x : Plan). x .estimate .cost) (st .plans) p (h .pcost) S.zero (omega (arith, room .pcost)))
-              e1 e2)
-              (ap₂ (λ (x y : ℕ). counts x y (st .visits) 0) (sym q) em)
+            (lists-eq
+            (put (λ (x : Plan). x .set) (st .plans) p (h .pset) 0 (omega (arith, room .pset)))
+            (put (λ (x : Plan). x .left) (st .plans) p (h .pleft) 0 (omega (arith, room .pleft)))
+            (put (λ (x : Plan). x .right) (st .plans) p (h .pright) 0 (omega (arith, room .pright)))
+            (put (λ (x : Plan). x .lead) (st .plans) p (h .plead) 0 (omega (arith, room .plead)))
+            (put (λ (x : Plan). x .kind) (st .plans) p (h .pkind) 0 (omega (arith, room .pkind)))
+            (put (λ (x : Plan). x .estimate .rows) (st .plans) p (h .prows) S.zero (omega (arith, room .prows)))
+            (put (λ (x : Plan). x .estimate .cost) (st .plans) p (h .pcost) S.zero (omega (arith, room .pcost)))
+            e1 e2)
+            (ap₂ (λ (x y : ℕ). counts x y (st .visits) 0) (sym q) em)
             ∙ ap (holding h) (sym ed)
 
         is-added : (kept st (bitOr a b) || ltb (length (st .memo)) (g .memoRoom)) ≡ true → attempt I a b st ≡ added st a b p
@@ -306,6 +306,7 @@ module _ (g : Given) (ls : List Leaf) (limit : ℕ) (h : Lists) (room : Roomy g 
       both z (some l) ea none eb cs ec = skip (due-no-right g H P a b z (for a ∙ ap toKept ea) (for b ∙ ap toKept eb)) (runs z ∙ rw (ea, eb))
       both z (some l) ea (some r) eb [] ec = none-goal z l r ea eb ec
       both z (some l) ea (some r) eb (c ∷ cs) ec = edge-goal z l r ea eb c cs ec
+
       go : (x : Bool) → eqb (st .stop) 0 ≡ x → Goal
       go false q = skip (due-stopped g H P a b (eqb-false _ _ q)) (frozen (eqb-false _ _ q))
       go true q = both (eqb-true _ _ q) (find (st .memo) a) refl (find (st .memo) b) refl (connecting es a b) refl

@@ -3,3 +3,4 @@ pub mod Held
 pub mod Laws
 pub mod MemoHeld
 pub mod CandidateHeld
+pub mod SearchHeld

@@ -52,14 +52,17 @@ seated i (x ∷ m) s k e = go (eqb (x .set) s) refl e (seated (suc i) m s k)
         let is : x .set ≡ s = eqb-true _ _ q in
         (0, omega arith, record { inside = omega arith; found = rw (q, find); has = is; same-sets = λ n. rw (q, replace) (ap (λ (y : ℕ). y ∷ sets m) (sym is)); new-plans = λ n. rw (q, replace) })
     go false q e f =
-        let r = f e in
-        (suc (r .0), omega (arith, r .1), record {
-          inside = omega (arith, r .2 .inside);
-          found = rw (q, find) (r .2 .found);
-          has = r .2 .has;
-          same-sets = λ n. rw (q, replace) (ap (λ (t : List ℕ). x .set ∷ t) (r .2 .same-sets n));
-          new-plans = λ n. rw (q, replace) (ap (λ (t : List ℕ). x .plan ∷ t) (r .2 .new-plans n));
-        })
+        let r = f e in (
+          suc (r .0),
+          omega (arith, r .1),
+          record {
+            inside = omega (arith, r .2 .inside);
+            found = rw (q, find) (r .2 .found);
+            has = r .2 .has;
+            same-sets = λ n. rw (q, replace) (ap (λ (t : List ℕ). x .set ∷ t) (r .2 .same-sets n));
+            new-plans = λ n. rw (q, replace) (ap (λ (t : List ℕ). x .plan ∷ t) (r .2 .new-plans n));
+          },
+        )
 
 abbrev pub toKept : Option ℕ → Kept
 toKept none = Absent
