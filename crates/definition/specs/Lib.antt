@@ -41,3 +41,4 @@ pub mod KeptLaws
 pub mod KeptMore
 pub mod MemoOrder
 pub mod KeptSearch
+pub mod EdgeTypes
