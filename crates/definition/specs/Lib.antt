@@ -20,6 +20,8 @@ pub mod Kept
 pub mod PlanRule
 -- Computed examples.
 pub mod SheetSamples
+pub mod CandidateOrder
+pub mod CandidateSamples
 pub mod CostSamples
 pub mod Samples
 pub mod PlanRuleSamples
@@ -41,4 +43,4 @@ pub mod KeptLaws
 pub mod KeptMore
 pub mod MemoOrder
 pub mod KeptSearch
-pub mod EdgeTypes
+pub mod UntypedEdges
