@@ -73,7 +73,7 @@ no-subsets : nonEmptySubsets 0 ≡ []
 unfolding nonEmptySubsets subsetsOf
 no-subsets = refl
 
-or-pos : (a b : ℕ) → 0 < a → 0 < bitOr a b
+pub or-pos : (a b : ℕ) → 0 < a → 0 < bitOr a b
 or-pos a b h = omega (arith, or-add-and a b, and-le-r a b)
 
 module _ (es : List Edge) (n : ℕ) (few : n ≤ 64) (below : All (Below n) es) (sided : All Sided es)

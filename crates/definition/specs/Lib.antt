@@ -7,6 +7,7 @@ pub mod Accepted
 pub mod Tables
 pub mod Hypergraph
 pub mod EdgeView
+pub mod GoodEdge
 pub mod Connected
 pub mod Edges
 pub mod Cost
@@ -27,6 +28,7 @@ pub mod Samples
 pub mod PlanRuleSamples
 -- Laws and theorems.
 pub mod ListLaws
+pub mod AllLaws
 pub mod QuestionLaws
 pub mod SheetLaws
 pub mod EdgeViewLaws
@@ -44,3 +46,7 @@ pub mod KeptMore
 pub mod MemoOrder
 pub mod KeptSearch
 pub mod UntypedEdges
+pub mod EdgeLaws
+pub mod BuildLaws
+pub mod InputLaws
+pub mod RecordSetLaws

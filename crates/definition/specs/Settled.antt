@@ -20,22 +20,22 @@ le-or-lt (suc a) zero = inr (suc-le-suc zero-le)
 le-or-lt (suc a) (suc b) = elim (le-or-lt a b) [ inl h ↦ inl (suc-le-suc h) | inr h ↦ inr (suc-le-suc h) ]
 
 -- ---- sets in sets
-sub-trans : (a b c : ℕ) → In a b → In b c → In a c
+pub sub-trans : (a b c : ℕ) → In a b → In b c → In a c
 sub-trans a b c p q i = le-trans (p i) (q i)
 
-sub-of : (a b : ℕ) → within a b ≡ true → In a b
+pub sub-of : (a b : ℕ) → within a b ≡ true → In a b
 sub-of a b e = within-in a b (eqb-true (bitAnd a b) a e)
 
 of-sub : (a b : ℕ) → a < 2 ^ 64 → In a b → within a b ≡ true
 of-sub a b h s = eq-eqb (bitAnd a b) a (in-within a b h s)
 
-sub-or-l : (a b : ℕ) → In a (bitOr a b)
+pub sub-or-l : (a b : ℕ) → In a (bitOr a b)
 sub-or-l a b i = subst (λ (x : ℕ). bit a i ≤ x) (sym (bit-or a b i)) (le-max-left (bit a i) (bit b i))
 
-sub-or-r : (a b : ℕ) → In b (bitOr a b)
+pub sub-or-r : (a b : ℕ) → In b (bitOr a b)
 sub-or-r a b i = subst (λ (x : ℕ). bit b i ≤ x) (sym (bit-or a b i)) (le-max-right (bit a i) (bit b i))
 
-or-sub : (a b c : ℕ) → In a c → In b c → In (bitOr a b) c
+pub or-sub : (a b c : ℕ) → In a c → In b c → In (bitOr a b) c
 or-sub a b c p q i = subst (λ (x : ℕ). x ≤ bit c i) (sym (bit-or a b i)) (max-le (p i) (q i))
 
 one-in : (a b i : ℕ) → In a b → bit a i ≡ 1 → bit b i ≡ 1
