@@ -13,25 +13,21 @@ use lib.Bits.{bitOr}
 use lib.Ieee.{Float}
 use borrow.Author.Tests.{eq-eqb, ne-eqb, eqb-true, eqb-false, ltb-true, ltb-false, lt-ltb, le-ltb}
 use Rattle.definition.specs.Answers.{plansFull, memoFull}
-use Rattle.definition.specs.Hypergraph.{Edge, none32, noEdge, leadOf, connecting, anyPredicate, selectivitiesOf}
+use Rattle.definition.specs.Hypergraph.{Edge, none32, noEdge, leadOf, connecting}
 use Rattle.definition.specs.Cost.{Estimate, product, candidateFrom, cheaper}
 use Rattle.definition.specs.Connection.{Connection, connectionOver, connection}
-use Rattle.definition.specs.EdgeView.{edgesOf}
 use Rattle.definition.specs.EdgeViewLaws.{length-edges, edges-get}
 use Rattle.definition.specs.EdgeWalkLaws.{lead-is-edge}
-use Rattle.definition.specs.Search.{Plan, Entry, Leaf, Input, State, absent, planAt, find, isSome, replace, kept, stopped, candidateKind, candidate, noted, added, stored, joined, attempt}
-use Rattle.nodeset.specs.declared.PlanId.{PlanId}
+use Rattle.definition.specs.Search.{Plan, Entry, Leaf, Input, State, absent, planAt, find, replace, kept, stopped, candidateKind, candidate, noted, added, stored, joined, attempt}
 use Rattle.candidate.specs.declared.DPhyp.{DPhyp}
-use Rattle.candidate.specs.declared.Place.{Place}
 use Rattle.candidate.specs.declared.Found.{Found}
 use Rattle.candidate.specs.declared.Found.the-variants.{At, Nothing}
 use Rattle.candidate.specs.declared.Kept.the-variants as kept-variants
 use Rattle.candidate.specs.declared.Room.{Room}
-use Rattle.candidate.specs.declared.Room.the-variants.{Here, Full}
-use Rattle.candidate.specs.declared.Due.{Due}
-use Rattle.candidate.specs.declared.Due.the-variants.{Make, Stop, Skip}
+use Rattle.candidate.specs.declared.Room.the-variants.{Here}
+use Rattle.candidate.specs.declared.Due.the-variants.{Stop, Skip}
 use Rattle.candidate.specs.Store as S
-use Rattle.candidate.specs.Store.{Lists, Store, Given, lists, store, counts, edges, spot, spotOf, estimateAt, at, kindOf, leadKind, planId, place, placeOf, planFor, dueOf}
+use Rattle.candidate.specs.Store.{Lists, Given, store, counts, edges, spot, spotOf, at, kindOf, leadKind, planId, place, placeOf, planFor, dueOf}
 use Rattle.candidate.specs.Held.{inputFor, column, holding, Roomy}
 use Rattle.candidate.specs.Laws.{lists-eq, attempt-skip, attempt-stop, attempt-make, due-stopped, due-no-left, due-no-right, due-none, due-full, due-no-place, due-place, place-new, place-full, place-cheaper, place-old}
 use Rattle.candidate.specs.MemoHeld.{sets, plans, Seated, seated, unseated, toKept, spot-held, plan-for}

@@ -1,19 +1,19 @@
 -- Laws of the store's definitions, one for each way through a function of the crate. Assumes nothing.
-use mathlib.Core.Path.{_≡_, refl, sym, ap, ap₂, _∙_, subst}
+use mathlib.Core.Path.{_≡_, refl, sym, ap, ap₂, _∙_}
 use mathlib.Core.List.{List, [], _∷_}
 use mathlib.Core.Bool.{Bool, true, false, false≢true}
 use Prim.Native.Nat.{ℕ, zero, suc, _+_, _-_, _<_, _≤_, min}
-use native.Mathlib.Nat.{min-le-left, min-le-right}
+use native.Mathlib.Nat.{min-le-left}
 use native.Mathlib.Numerals.{add-one}
 use native.Mathlib.Omega.{arith}
-use lib.ListN.{length, getD, set, take, drop, length-take, drop-of-length-le}
+use lib.ListN.{length, getD, take, drop, length-take, drop-of-length-le}
 use lib.Seq.{drop-cons, getD-take}
 use lib.Bits.{bitOr}
 use lib.Dec.{ltb, eqb}
 use lib.Ieee.{Float}
-use borrow.Author.Tests.{eq-eqb, ne-eqb, lt-ltb, le-ltb, eqb-true, eqb-false, ltb-true, ltb-false}
+use borrow.Author.Tests.{eq-eqb, ne-eqb, lt-ltb, le-ltb, ltb-true}
 use Rattle.definition.specs.Answers.{plansFull, memoFull, visitsSpent}
-use Rattle.definition.specs.Hypergraph.{Edge, none32}
+use Rattle.definition.specs.Hypergraph.{none32}
 use Rattle.definition.specs.Cost.{Estimate, product, candidateFrom, cheaper}
 use Rattle.definition.specs.Connection.{Connection, connection}
 use Rattle.nodeset.specs.declared.PlanId.{PlanId}
@@ -28,7 +28,7 @@ use Rattle.candidate.specs.declared.Room.{Room}
 use Rattle.candidate.specs.declared.Room.the-variants.{Here, Full}
 use Rattle.candidate.specs.declared.Due.{Due}
 use Rattle.candidate.specs.declared.Due.the-variants.{Make, Stop, Skip}
-use Rattle.candidate.specs.Store.{Lists, Store, Given, lists, store, counts, edges, spot, spotOf, visitOf, at, estimateAt, kindOf, leadKind, planId, place, placeOf, made, placed, linked, paired, planFor, dueOf, written, applied, attempt}
+use Rattle.candidate.specs.Store.{Lists, Given, lists, store, counts, edges, spot, spotOf, visitOf, at, estimateAt, kindOf, leadKind, place, placeOf, made, placed, linked, paired, planFor, dueOf, written, applied, attempt}
 
 pub getD-any : {A : Type 0} (l : List A) (i : ℕ) (d e : A) → i < length l → getD l i d ≡ getD l i e
 getD-any [] i d e h = absurd (omega arith)

@@ -14,7 +14,7 @@ use Rattle.nodeset.specs.SubsetLaws.{All}
 use Rattle.definition.specs.Answers.{visitsSpent}
 use Rattle.definition.specs.Hypergraph.{none32, Sided, connecting}
 use Rattle.definition.specs.Cost.{cheaper}
-use Rattle.definition.specs.Search.{Plan, Leaf, Input, State, planAt, find, isSome, kept, stopped, visit, candidate, noted, added, stored, joined, attempt, start, search, leafEntries}
+use Rattle.definition.specs.Search.{Plan, Leaf, Input, State, planAt, find, isSome, kept, stopped, visit, candidate, noted, added, joined, attempt, start, search}
 use Rattle.definition.specs.Walk.{solve}
 use Rattle.definition.specs.WalkLaws.{solve-rel}
 use Rattle.definition.specs.MemoLaws.{some-inj, winner, noted-same, noted-other, leafPlans-length, leaf-found}

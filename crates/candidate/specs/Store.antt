@@ -3,7 +3,7 @@ use mathlib.Core.Path.{_≡_}
 use mathlib.Core.List.{List, [], _∷_}
 use mathlib.Core.Bool.{Bool, true, false}
 use Prim.Native.Nat.{ℕ, suc, _+_}
-use lib.ListN.{length, getD, set, take}
+use lib.ListN.{getD, set, take}
 use lib.Dec.{ltb, eqb}
 use lib.Bits.{bitOr}
 use lib.Ieee.{Float, binary64, ofBits}

@@ -2,15 +2,15 @@
 use mathlib.Core.Path.{_≡_, refl, sym, ap, ap₂, _∙_, subst}
 use mathlib.Core.Bool.{Bool, true, false, not, _&&_}
 use mathlib.Core.List.{List, [], _∷_, _++_, map, map-append}
-use Prim.Native.Nat.{ℕ, zero, suc, _+_, _-_, _^_, _≤_, _<_, suc-le-suc}
-use native.Mathlib.Nat.{le-refl, le-of-suc-le-suc, not-suc-le-zero, add-zero}
+use Prim.Native.Nat.{ℕ, zero, suc, _+_, _-_, _≤_, _<_}
+use native.Mathlib.Nat.{not-suc-le-zero, add-zero}
 use native.Mathlib.Numerals.{add-one}
 use native.Mathlib.Omega.{arith}
 use lib.ListN.{length, getD, take, drop, set, length-set}
 use lib.Seq.{take-suc, take-suc-set, drop-cons, drop-drop, drop-set-lt, set-getD, take-all, getD-drop, slice, slice-cons, slice-empty}
 use lib.Bits.{bitAnd, bitOr, and-zero-l}
 use lib.Dec.{eqb}
-use Rattle.nodeset.specs.Sets.{disjoint, lowest}
+use Rattle.nodeset.specs.Sets.{lowest}
 use borrow.Author.Tests.{eq-eqb, ne-eqb}
 use Rattle.definition.specs.Connected.{ownClasses, oneClass, met, merge, merges, round, rounds, connected}
 

@@ -9,7 +9,7 @@ use Rattle.definition.specs.Question.{leaf, inner}
 use Rattle.definition.specs.Hypergraph.{connectingFrom, anyPredicate, selectivitiesOf}
 use Rattle.definition.specs.Cost.{filtered, candidateFrom}
 use Rattle.definition.specs.Walk.{each}
-use Rattle.definition.specs.Search.{Entry, Leaf, Input, State, Pair, find, replace, visit, candidateKind, candidate, noted, joined, attempt, leafPlans, leafEntries, start}
+use Rattle.definition.specs.Search.{Entry, Leaf, Input, Pair, find, replace, visit, candidateKind, candidate, noted, joined, attempt, leafPlans, leafEntries, start}
 
 abbrev scan : ℕ → Leaf
 scan rows = record { rows = rows; columns = 1 }

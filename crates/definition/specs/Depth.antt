@@ -16,8 +16,8 @@ use Rattle.nodeset.specs.SetLaws.{bit-zero, bit-suc, bit-high, Lowest, lowest-o
 use Rattle.nodeset.specs.Subsets.{subsetsOf, nonEmptySubsets, singletons}
 use Rattle.nodeset.specs.SubsetLaws.{All, subsets-in, subsets-within}
 use Rattle.nodeset.specs.SingletonLaws.{singletons-in}
-use Rattle.definition.specs.Hypergraph.{Edge, beyond, neighborhood, hasEdge}
-use Rattle.definition.specs.Walk.{each, tryConnected, enumerateCmpRec, tryEdge, emitCsg, emitKept, enumerateCsgRec, solveFrom, solve}
+use Rattle.definition.specs.Hypergraph.{Edge, beyond, neighborhood}
+use Rattle.definition.specs.Walk.{each, tryConnected, enumerateCmpRec, emitCsg, emitKept, enumerateCsgRec, solveFrom, solve}
 use Rattle.definition.specs.WalkLaws.{Sided, neighborhood-apart, neighborhood-set}
 
 -- ---- how many leaves a set has

@@ -1,8 +1,8 @@
 -- A question apart from the bytes it comes in. Document 01, 'The question sheet': items, predicates, columns.
-use Prim.Native.Nat.{ℕ, zero, suc, _+_, _-_}
+use Prim.Native.Nat.{ℕ, suc, _+_, _-_}
 use mathlib.Core.Bool.{Bool, true, false}
 use mathlib.Core.List.{List, [], _∷_, map}
-use lib.ListN.{length, getD, take, drop}
+use lib.ListN.{getD, take, drop}
 use lib.Dec.{eqb, leb, ltb}
 
 pub record Range : Type 0 where

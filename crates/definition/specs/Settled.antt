@@ -4,14 +4,14 @@ use mathlib.Core.Logic.{_⊎_, inl, inr}
 use mathlib.Core.Bool.{Bool, true, false, _&&_, not}
 use mathlib.Core.List.{List, [], _∷_, map}
 use Prim.Native.Nat.{ℕ, zero, suc, _+_, _^_, _≤_, _<_, min, max, zero-le, suc-le-suc}
-use native.Mathlib.Nat.{le-refl, le-trans, min-le-right, max-le, le-max-left, le-max-right, eq-zero-or-pos, not-suc-le-zero}
+use native.Mathlib.Nat.{le-refl, le-trans, max-le, le-max-left, le-max-right, eq-zero-or-pos}
 use native.Mathlib.Omega.{arith}
 use lib.ListN.{length, getD, List·getD-map}
 use lib.Dec.{eqb}
 use lib.Bits.{bitAnd, bitOr, and-zero-l, or-lt}
 use borrow.Author.Tests.{eq-eqb, ne-eqb, eqb-true}
 use Rattle.nodeset.specs.Sets.{bit, within, disjoint, lowest}
-use Rattle.nodeset.specs.SetLaws.{bit-lt, bit-empty, bit-and, bit-or, Lowest, lowest-of, In, within-in, in-within}
+use Rattle.nodeset.specs.SetLaws.{bit-lt, bit-empty, bit-and, bit-or, lowest-of, In, within-in, in-within}
 use Rattle.definition.specs.Connected.{oneClass, met, merge, merges, round, rounds}
 
 le-or-lt : (a b : ℕ) → (a ≤ b) ⊎ (b < a)

@@ -3,10 +3,10 @@ use Prim.Native.Nat.{ℕ, zero, suc, _+_, _*_}
 use mathlib.Core.Bool.{Bool, true, false, _&&_, _||_, not}
 use mathlib.Core.List.{List, [], _∷_, _++_}
 use lib.ListN.{length, getD}
-use lib.Dec.{eqb, ltb, leb}
+use lib.Dec.{eqb, ltb}
 use Rattle.definition.specs.Answers.{truncated, overLimit, misplaced, unknownKind, reservedNotZero, rangePastTable, selectivityAboveOne, tooManyLeaves, brokenWalk}
 use Rattle.definition.specs.Lists.{tabulate, concatMap}
-use Rattle.definition.specs.Question.{Range, fits, Item, Predicate, Question, crossProduct, leaf, openItem, openQuestion, leafCount, isWalk}
+use Rattle.definition.specs.Question.{Range, fits, Item, Predicate, Question, crossProduct, leaf, openQuestion, leafCount, isWalk}
 
 -- ---- bytes
 

@@ -1,5 +1,5 @@
 -- The search does not read the edges' types: it is the same over the edges without them. Assumes nothing.
-use mathlib.Core.Path.{_≡_, refl, sym, ap, ap₂, _∙_}
+use mathlib.Core.Path.{_≡_, refl, ap, ap₂, _∙_}
 use mathlib.Core.List.{List, [], _∷_, _++_, map, map-append}
 use mathlib.Core.Bool.{Bool, true, false, _&&_, _||_}
 use mathlib.Core.Option.{Option, none, some}
@@ -14,7 +14,7 @@ use Rattle.definition.specs.Hypergraph.{Edge, noEdge, connects, hasEdge,
 use Rattle.definition.specs.EdgeView.{edgeAt, edgesOf}
 use Rattle.definition.specs.Cost.{candidateEstimate}
 use Rattle.definition.specs.Question.{inner, crossProduct}
-use Rattle.definition.specs.Walk.{each, tryConnected, tryEdge, enumerateCmpRec, emitCsg, emitKept, enumerateCsgRec, solveFrom, solve}
+use Rattle.definition.specs.Walk.{each, tryConnected, tryEdge, enumerateCmpRec, emitCsg, emitKept, enumerateCsgRec, solveFrom}
 use Rattle.definition.specs.Search.{Plan, Input, State, planAt, find, kept, visit, candidateKind, candidate, stored, joined, attempt, start, search}
 
 -- ---- the walk is the same for other edges with the same neighbours and connections, and for the same candidates

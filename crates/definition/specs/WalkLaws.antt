@@ -1,9 +1,8 @@
 -- One law of the walk: a relation between two states that visits and candidates keep is kept by the walk. What the walk knows of the two sets
 -- of a candidate is handed on: they have no leaf in common. Assumes nothing.
-use mathlib.Core.Path.{_≡_, refl, sym, ap, ap₂, _∙_, subst}
+use mathlib.Core.Path.{_≡_, refl, sym, ap, subst}
 use mathlib.Core.Logic.{_⊎_, inl, inr}
-use Prim.Native.Nat.{ℕ, zero, suc, _+_, _-_, _^_, _<_, _≤_, min, max, zero-le}
-use native.Mathlib.Nat.{le-refl, le-of-eq, le-trans}
+use Prim.Native.Nat.{ℕ, zero, suc, _-_, _^_, _<_, min}
 use native.Mathlib.Omega.{arith}
 use mathlib.Core.Bool.{Bool, true, false, _&&_, false≢true}
 use mathlib.Core.List.{List, [], _∷_}
@@ -12,13 +11,13 @@ use lib.Pow.{pow-pos, pow-lt}
 use lib.Dec.{T, eqb, ltb, eqb→eq}
 use borrow.Author.Tests.{ltb-true}
 use Rattle.nodeset.specs.Sets.{bit, within, disjoint, singleton, lowest, allBelow, upToLowest}
-use Rattle.nodeset.specs.SetLaws.{bit-or, bit-lt, bit-empty, bit-one-cases, Lowest, lowest-of, singleton-is, Apart, In, disjoint-apart}
+use Rattle.nodeset.specs.SetLaws.{bit-or, bit-empty, bit-one-cases, Lowest, lowest-of, singleton-is, Apart, In, disjoint-apart}
 use Rattle.nodeset.specs.Subsets.{nonEmptySubsets, singletons}
 use Rattle.nodeset.specs.SubsetLaws.{All, subsets-in}
 use Rattle.nodeset.specs.SingletonLaws.{singletons-in}
 use Rattle.definition.specs.Hypergraph.{Edge, beyond, neighborhood, hasEdge}
 pub use Rattle.definition.specs.Hypergraph.{Sided}
-use Rattle.definition.specs.Walk.{each, tryConnected, enumerateCmpRec, tryEdge, emitCsg, emitKept, enumerateCsgRec, solveFrom, solve}
+use Rattle.definition.specs.Walk.{each, tryConnected, enumerateCmpRec, emitCsg, emitKept, enumerateCsgRec, solveFrom, solve}
 
 -- ---- neighbours
 

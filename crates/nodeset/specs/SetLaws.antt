@@ -1,16 +1,16 @@
 -- Laws of sets, by their digits. Assumes nothing.
-use mathlib.Core.Path.{_≡_, refl, sym, ap, ap₂, _∙_, subst}
+use mathlib.Core.Path.{_≡_, refl, sym, ap, _∙_, subst}
 use mathlib.Core.Logic.{_⊎_, inl, inr}
 use mathlib.Core.Bool.{Bool, true, false}
 use Prim.Native.Nat.{ℕ, zero, suc, _+_, _-_, _*_, _/_, _%_, _^_, _≤_, _<_, min, max, zero-le, suc-le-suc}
-use native.Mathlib.Nat.{mod-lt, zero-lt-suc, lt-of-le-of-lt, lt-of-lt-of-le, min-le-left, min-le-right, min-eq-left, min-eq-right, min-zero, max-le, le-div-iff-mul-le, div-lt-iff-lt-mul, mul-comm, pow-suc, div-eq-of-lt, le-refl, eq-zero-or-pos, mul-one, one-mul, div-one, le-of-suc-le-suc, mod-eq-of-lt, not-suc-le-zero, lt-irrefl, le-of-lt, eq-or-lt-of-le, add-comm}
-use native.Mathlib.Numerals.{add-one, one-add}
+use native.Mathlib.Nat.{mod-lt, zero-lt-suc, lt-of-le-of-lt, lt-of-lt-of-le, min-le-left, min-le-right, min-eq-left, min-eq-right, min-zero, max-le, le-div-iff-mul-le, div-lt-iff-lt-mul, mul-comm, pow-suc, div-eq-of-lt, le-refl, one-mul, div-one, le-of-suc-le-suc, not-suc-le-zero, lt-irrefl}
+use native.Mathlib.Numerals.{one-add}
 use native.Mathlib.Omega.{arith}
 use lib.Arith.{digits-mod, lt-one, bin-ind}
 use lib.Pow.{pow-pos, pow-mono, pow-lt, shr-shr, ones-lt}
-use lib.Bits.{bitAnd, bitOr, and-step, or-step, and-shr, or-shr, and-lt, or-lt, and-zero-r, and-le-l, and-le-r}
+use lib.Bits.{bitAnd, bitOr, and-step, or-step, and-shr, or-shr, and-le-l, and-le-r}
 use lib.Count.{trailingZeros, leadingZeros, leading-top, under}
-use lib.Dec.{eqb, ltb}
+use lib.Dec.{eqb}
 use borrow.Author.Tests.{lt-ltb, le-ltb, eq-eqb, ne-eqb, eqb-true, eqb-false}
 use Rattle.nodeset.specs.Sets.{bit, singleton, lowest, highest, allBelow}
 pub use Rattle.nodeset.specs.Sets.{Apart, In}

@@ -2,10 +2,9 @@
 use mathlib.Core.Path.{_≡_, refl, sym, ap, ap₂, _∙_, subst}
 use mathlib.Core.Logic.{_⊎_, inl, inr}
 use mathlib.Core.List.{List, [], _∷_}
-use Prim.Native.Nat.{ℕ, zero, suc, _+_, _-_, _^_, _≤_, _<_, min, zero-le}
+use Prim.Native.Nat.{ℕ, zero, suc, _-_, _^_, _≤_, _<_, min}
 use native.Mathlib.Nat.{le-refl, le-trans, le-suc, lt-irrefl, le-of-suc-le-suc, eq-or-lt-of-le, min-zero, min-eq-left, zero-min, not-suc-le-zero}
 use native.Mathlib.Omega.{arith}
-use lib.Bits.{bitAnd}
 use lib.Pow.{pow-lt, pow-pos}
 use Rattle.nodeset.specs.Sets.{bit, difference, singleton, highest}
 use Rattle.nodeset.specs.Subsets.{singletonsBelow, singletons}

@@ -1,15 +1,14 @@
 -- The step from a subset to the next goes through the list of the non-empty subsets, which holds each of them once, in rising order.
 -- Assumes nothing.
 use mathlib.Core.Path.{_≡_, refl, sym, ap, ap₂, _∙_, subst}
-use mathlib.Core.Logic.{_⊎_, inl, inr}
+use mathlib.Core.Logic.{inl, inr}
 use mathlib.Core.List.{List, [], _∷_, List·Memᴰ, List·Memᴰ·head, List·Memᴰ·tail, List·Memᴰ·not-nil, List·Memᴰ·cases-cons}
 use Prim.Native.Nat.{ℕ, zero, suc, _+_, _-_, _*_, _/_, _%_, _^_, _<_, _≤_, min}
-use native.Mathlib.Nat.{pow-suc, mod-lt, zero-lt-suc, lt-of-lt-of-le, le-of-lt}
+use native.Mathlib.Nat.{pow-suc, mod-lt, zero-lt-suc}
 use native.Mathlib.Omega.{arith}
 use lib.Arith.{lt-one, bin-ind}
 use lib.Bits.{bitAnd, and-step, and-zero-r, and-le-r}
-use Rattle.nodeset.specs.Sets.{bit}
-use Rattle.nodeset.specs.SetLaws.{In, within-in, in-within}
+use Rattle.nodeset.specs.SetLaws.{In, within-in}
 use Rattle.nodeset.specs.Subsets.{doubled, subsetsOf, rest, nonEmptySubsets, nextSubset}
 
 abbrev pub All : {A : Type 0} → (A → Type 0) → List A → Type 0

@@ -2,11 +2,9 @@
 use borrow.Author.Needs.{needs}
 use Rattle.candidate.proofs.decide.Statement.{statement}
 use Rattle.candidate.proofs.decide.Tie as tie
-use mathlib.Core.Path.{_≡_, sym, ap, ap₂, _∙_}
+use mathlib.Core.Path.{sym, ap, ap₂, _∙_}
 use mathlib.Core.List.{List, []}
 use Prim.Native.Nat.{ℕ}
-use native.Mathlib.Omega.{arith}
-use lib.Ieee.{Float}
 use Rattle.definition.specs.Cost.{Estimate, product, candidateFrom}
 use Rattle.definition.specs.Connection.{connection}
 use Rattle.cost.specs.View.{connectionOf}

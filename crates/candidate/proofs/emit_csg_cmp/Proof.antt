@@ -6,7 +6,6 @@ use mathlib.Core.Path.{_≡_, sym, _∙_}
 use native.Mathlib.Omega.{arith}
 use Rattle.candidate.specs.Store.{Given, Lists, given, lists, dueOf}
 use Rattle.candidate.specs.Laws.{make-room, attempt-skip, attempt-stop, attempt-make}
-use Rattle.candidate.specs.declared.Due.{Due}
 
 abbrev g : tie.Start → Given
 g s =

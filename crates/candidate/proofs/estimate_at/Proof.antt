@@ -2,7 +2,7 @@
 use borrow.Author.Needs.{needs}
 use Rattle.candidate.proofs.estimate_at.Statement.{statement}
 use Rattle.candidate.proofs.estimate_at.Tie as tie
-use mathlib.Core.Path.{_≡_, ap₂}
+use mathlib.Core.Path.{ap₂}
 use lib.Ieee.{Float}
 use Rattle.definition.specs.Cost.{Estimate}
 

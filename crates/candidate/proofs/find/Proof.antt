@@ -2,9 +2,9 @@
 use Rattle.candidate.proofs.find.Statement.{statement}
 use Rattle.candidate.proofs.find.Tie as tie
 use borrow.Author.Needs.{needs}
-use mathlib.Core.Path.{_≡_, refl, sym, ap, _∙_}
+use mathlib.Core.Path.{_≡_, refl, sym, _∙_}
 use mathlib.Core.Logic.{⊎-elim}
-use Prim.Native.Nat.{ℕ, _-_, _≤_, min}
+use Prim.Native.Nat.{_-_, _≤_, min}
 use native.Mathlib.Nat.{min-le-left, min-le-right, min-eq-left, min-eq-right, le-of-lt}
 use native.Mathlib.Omega.{arith}
 use lib.ListN.{length, take, drop}

@@ -2,9 +2,8 @@
 use borrow.Author.Needs.{needs}
 use Rattle.candidate.proofs.find_place.Statement.{statement}
 use Rattle.candidate.proofs.find_place.Tie as tie
-use mathlib.Core.Path.{_≡_, sym, ap, _∙_}
-use mathlib.Core.Bool.{Bool}
-use Rattle.definition.specs.Cost.{Estimate, cheaper}
+use mathlib.Core.Path.{sym, ap, _∙_}
+use Rattle.definition.specs.Cost.{cheaper}
 use Rattle.cost.specs.View.{estimateOf}
 use Rattle.candidate.specs.Laws.{place-new, place-full, place-cheaper, place-old}
 

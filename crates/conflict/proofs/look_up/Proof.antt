@@ -1,8 +1,6 @@
 -- `conflict::look_up` meets its contract. Assumes nothing.
 use borrow.Author.Needs.{needs}
 use borrow.Author.Tests.{le-leb, lt-leb}
-use mathlib.Core.Bool.{_&&_}
-use native.Mathlib.Omega.{arith}
 use Rattle.definition.specs.Tables.{asked}
 use Rattle.conflict.proofs.look_up.Statement.{statement}
 use Rattle.conflict.proofs.look_up.Tie as tie

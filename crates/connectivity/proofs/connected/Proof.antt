@@ -1,13 +1,10 @@
 use borrow.Author.Needs.{needs}
-use mathlib.Core.Path.{_≡_, refl, sym, ap, _∙_}
-use mathlib.Core.List.{List}
-use Prim.Native.Nat.{ℕ}
-use lib.ListN.{length, take}
+use mathlib.Core.Path.{sym, _∙_}
+use lib.ListN.{take}
 use lib.Seq.{length-take-le}
-use lib.Bits.{bitOr}
-use borrow.Author.Tests.{eq-eqb, ne-eqb}
+use borrow.Author.Tests.{eq-eqb}
 use Rattle.connectivity.proofs.Laws.{connected-none, connected-by}
-use Rattle.definition.specs.Connected.{oneClass, merge, rounds, connected}
+use Rattle.definition.specs.Connected.{connected}
 use Rattle.connectivity.proofs.connected.Statement.{statement}
 use Rattle.connectivity.proofs.connected.Tie as tie
 

@@ -1,8 +1,8 @@
 use borrow.Author.Needs.{needs}
-use mathlib.Core.Path.{_≡_, refl, sym, ap, _∙_}
+use mathlib.Core.Path.{_≡_, sym, _∙_}
 use Rattle.connectivity.proofs.edge_merges.Statement.{statement}
 use Rattle.connectivity.proofs.edge_merges.Tie as tie
-use borrow.Author.Tests.{eq-eqb, ne-eqb}
+use borrow.Author.Tests.{eq-eqb}
 use Rattle.definition.specs.Connected.{oneClass, merges}
 use Rattle.connectivity.proofs.Laws.{merges-joined, merges-by}
 use mathlib.Core.Bool.{_&&_}

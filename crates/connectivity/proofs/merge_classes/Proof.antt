@@ -1,14 +1,14 @@
-use mathlib.Core.Path.{_≡_, refl, sym, ap, ap₂, _∙_, subst}
+use mathlib.Core.Path.{_≡_, refl, sym, ap, _∙_, subst}
 use mathlib.Core.Logic.{⊎-elim}
 use mathlib.Core.Bool.{Bool, true, false}
 use mathlib.Core.List.{List, map}
 use Prim.Native.Nat.{ℕ, _+_, _-_, _≤_, _<_}
 use native.Mathlib.Omega.{arith}
-use lib.ListN.{length, getD, set, length-set}
+use lib.ListN.{length, getD}
 use lib.Bits.{bitAnd}
 use borrow.Author.Tests.{eq-eqb, ne-eqb}
 use Rattle.nodeset.specs.Sets.{disjoint}
-use Rattle.definition.specs.Connected.{met, merge}
+use Rattle.definition.specs.Connected.{merge}
 use Rattle.connectivity.proofs.Laws.{Mapped, mapped-store, mapped-keep, mapped-all}
 use Rattle.connectivity.proofs.merge_classes.Statement.{statement}
 use Rattle.connectivity.proofs.merge_classes.Tie as tie

@@ -1,13 +1,10 @@
 use mathlib.Core.Path.{_≡_, refl, sym, ap, _∙_}
 use mathlib.Core.Logic.{⊎-elim}
-use mathlib.Core.Bool.{Bool}
-use Prim.Native.Nat.{ℕ, _+_, _-_, _≤_, _<_}
+use Prim.Native.Nat.{ℕ, _-_, _≤_, _<_}
 use native.Mathlib.Omega.{arith}
-use lib.Bits.{bitOr}
 use mathlib.Core.List.{List}
-use lib.ListN.{length, getD, drop}
+use lib.ListN.{length, drop}
 use lib.Seq.{drop-length}
-use borrow.Author.Tests.{eq-eqb, ne-eqb}
 use Rattle.definition.specs.Connected.{met}
 use Rattle.connectivity.proofs.Laws.{met-with, met-without}
 use Rattle.connectivity.proofs.met_classes.Statement.{statement}

@@ -1,10 +1,7 @@
-use mathlib.Core.Path.{_≡_, refl, sym, ap, _∙_}
-use Prim.Native.Nat.{ℕ, _^_, _<_}
+use mathlib.Core.Path.{refl, sym}
+use Prim.Native.Nat.{_<_}
 use native.Mathlib.Omega.{arith}
-use lib.Bits.{and-zero-l}
 use lib.Count.{trailingZeros}
-use lib.ListN.{getD}
-use borrow.Author.Tests.{eq-eqb}
 use Rattle.nodeset.specs.Sets.{lowest}
 use Rattle.nodeset.specs.SetLaws.{lowest-is}
 use Rattle.definition.specs.Connected.{oneClass}

@@ -1,13 +1,11 @@
-use mathlib.Core.Path.{_≡_, refl, sym, ap, ap₂, _∙_, subst}
+use mathlib.Core.Path.{_≡_, refl, sym, ap, _∙_}
 use mathlib.Core.Logic.{⊎-elim}
-use mathlib.Core.Bool.{Bool, true, false}
-use mathlib.Core.List.{List, map}
-use Prim.Native.Nat.{ℕ, _+_, _-_, _≤_, _<_}
+use mathlib.Core.Bool.{true, false}
+use Prim.Native.Nat.{ℕ, _-_, _≤_, _<_}
 use native.Mathlib.Omega.{arith}
-use lib.ListN.{length, getD, take}
+use lib.ListN.{length, take}
 use lib.Seq.{slice}
-use lib.Bits.{bitAnd, bitOr}
-use Rattle.definition.specs.Connected.{merge, merges, round}
+use Rattle.definition.specs.Connected.{round}
 use Rattle.connectivity.proofs.Laws.{round-with, round-without, round-done}
 use Rattle.connectivity.proofs.pass.Statement.{statement}
 use Rattle.connectivity.proofs.pass.Tie as tie

@@ -1,9 +1,9 @@
 use mathlib.Core.Path.{_≡_, refl, sym, ap, _∙_}
-use Prim.Native.Nat.{ℕ, _-_, _≤_, _<_}
+use Prim.Native.Nat.{ℕ, _-_}
 use native.Mathlib.Omega.{arith}
 use borrow.Author.Tests.{not-true}
 use lib.ListN.{length, take}
-use Rattle.definition.specs.Connected.{round, rounds}
+use Rattle.definition.specs.Connected.{rounds}
 use Rattle.connectivity.proofs.Laws.{rounds-still, rounds-step}
 use Rattle.connectivity.proofs.settle.Statement.{statement}
 use Rattle.connectivity.proofs.settle.Tie as tie

@@ -1,12 +1,9 @@
 use borrow.Author.Needs.{needs}
 use Rattle.graph.proofs.beyond.Statement.{statement}
 use Rattle.graph.proofs.beyond.Tie as tie
-use mathlib.Core.Path.{_≡_, sym, ap, _∙_}
-use mathlib.Core.Bool.{Bool, true, false, _&&_}
-use Prim.Native.Nat.{ℕ}
+use mathlib.Core.Path.{sym, ap, _∙_}
 use borrow.Author.Tests.{not-true, not-false}
-use lib.Dec.{eqb}
-use Rattle.nodeset.specs.Sets.{within, disjoint, singleton, lowest}
+use Rattle.nodeset.specs.Sets.{singleton}
 use Rattle.definition.specs.Hypergraph.{beyond}
 
 is-subset-requires : tie.Need-is-subset-requires

@@ -7,7 +7,7 @@ use Prim.Native.Nat.{ℕ, _-_, _≤_}
 use native.Mathlib.Omega.{arith}
 use lib.ListN.{getD, drop}
 use Rattle.definition.specs.Hypergraph.{hasEdge, connects}
-use Rattle.definition.specs.EdgeView.{edgeAt, edgesOf}
+use Rattle.definition.specs.EdgeView.{edgesOf}
 use Rattle.graph.specs.Laws.{has-here, has-on, has-end}
 
 abbrev Inv-loop : tie.InvT-loop

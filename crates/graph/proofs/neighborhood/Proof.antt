@@ -1,11 +1,11 @@
 use Rattle.graph.proofs.neighborhood.Statement.{statement}
 use Rattle.graph.proofs.neighborhood.Tie as tie
 use borrow.Author.Needs.{needs}
-use mathlib.Core.Path.{_≡_, refl, sym, ap, ap₂, _∙_}
+use mathlib.Core.Path.{_≡_, sym, ap, ap₂, _∙_}
 use mathlib.Core.List.{List}
 use Prim.Native.Nat.{ℕ, _+_, _-_, _≤_}
 use native.Mathlib.Omega.{arith}
-use lib.ListN.{getD, drop}
+use lib.ListN.{drop}
 use lib.Bits.{bitOr, or-zero-l}
 use Rattle.definition.specs.Hypergraph.{neighborhood}
 use Rattle.definition.specs.EdgeView.{edgesOf}

@@ -1,9 +1,8 @@
 use Rattle.ses.proofs.has_column.Statement.{statement}
 use Rattle.ses.proofs.has_column.Tie as tie
 use borrow.Author.Needs.{needs}
-use mathlib.Core.Path.{_≡_, refl, sym, ap, _∙_}
-use mathlib.Core.List.{List}
-use Prim.Native.Nat.{ℕ, _+_, _-_, _≤_}
+use mathlib.Core.Path.{_≡_, sym, ap, _∙_}
+use Prim.Native.Nat.{_+_, _-_, _≤_}
 use native.Mathlib.Omega.{arith}
 use Rattle.definition.specs.Lists.{member}
 use Rattle.definition.specs.Sheet.{questionOf}

@@ -1,7 +1,7 @@
 use Rattle.ses.proofs.with_holders.Statement.{statement}
 use Rattle.ses.proofs.with_holders.Tie as tie
 use borrow.Author.Needs.{needs}
-use mathlib.Core.Path.{_≡_, refl, sym, ap, _∙_}
+use mathlib.Core.Path.{_≡_, sym, ap, _∙_}
 use mathlib.Core.List.{List}
 use Prim.Native.Nat.{ℕ, _+_, _-_, _≤_}
 use native.Mathlib.Omega.{arith}

@@ -1,5 +1,5 @@
 -- `conflict::HyperedgeJoinType::from_join_type` meets its contract: the code asks in which range of numbers the kind lies. Assumes nothing.
-use mathlib.Core.Path.{_≡_, refl, sym, ap, _∙_}
+use mathlib.Core.Path.{_≡_, refl, sym, ap}
 use mathlib.Core.Bool.{Bool, true, false, _&&_, _||_}
 use mathlib.Core.List.{List, [], _∷_}
 use Prim.Native.Nat.{ℕ, _≤_, _<_, zero-le}
