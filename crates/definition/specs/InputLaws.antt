@@ -23,7 +23,7 @@ use Rattle.definition.specs.Call.{Rooms, leavesOf, inputOf}
 use Rattle.definition.specs.PlanRule.{WithinLimits}
 use Rattle.definition.specs.AllLaws.{all-of, all-mapped}
 use Rattle.definition.specs.EdgeLaws.{good-edges, edges-sided}
-use Rattle.definition.specs.BuildLaws.{JoinFits, edges-counted}
+use Rattle.definition.specs.EdgeCount.{JoinFits, edges-counted}
 
 -- the leaves handed over are the walk's
 pub leaves-counted : (is : List Item) → length (leavesOf is) ≡ leafCount (map openItem is)

@@ -47,6 +47,6 @@ pub mod MemoOrder
 pub mod KeptSearch
 pub mod UntypedEdges
 pub mod EdgeLaws
-pub mod BuildLaws
+pub mod EdgeCount
 pub mod InputLaws
 pub mod RecordSetLaws
