@@ -33,7 +33,7 @@ use Rattle.candidate.specs.Laws.{lists-eq, attempt-skip, attempt-stop, a
 use Rattle.candidate.specs.MemoHeld.{sets, plans, Seated, seated, unseated, toKept, spot-held, plan-for}
 
 -- one field's list when a row is put behind the others; d is any element
-put : {A B : Type 0} (f : A → B) (xs : List A) (x : A) (l : List B) (d : B) → length xs < length l
+pub put : {A B : Type 0} (f : A → B) (xs : List A) (x : A) (l : List B) (d : B) → length xs < length l
     → set (column f xs l) (length xs) (f x) ≡ column f (xs ++ (x ∷ [])) l
 put {A} {B} f xs x l d h =
     ap (λ (r : List B). set (map f xs ++ r) (length xs) (f x)) (drop-cons l (length xs) d h)

@@ -13,6 +13,8 @@ use lib.Dec.{ltb, eqb}
 use lib.Ieee.{Float}
 use borrow.Author.Tests.{eq-eqb, ne-eqb, lt-ltb, le-ltb, ltb-true}
 use Rattle.definition.specs.Answers.{plansFull, memoFull, visitsSpent}
+use Rattle.nodeset.specs.Sets.{singleton}
+use Rattle.definition.specs.Question.{leaf}
 use Rattle.definition.specs.Hypergraph.{none32}
 use Rattle.definition.specs.Cost.{Estimate, product, candidateFrom, cheaper}
 use Rattle.definition.specs.Connection.{Connection, connection}
@@ -28,7 +30,7 @@ use Rattle.candidate.specs.declared.Room.{Room}
 use Rattle.candidate.specs.declared.Room.the-variants.{Here, Full}
 use Rattle.candidate.specs.declared.Due.{Due}
 use Rattle.candidate.specs.declared.Due.the-variants.{Make, Stop, Skip}
-use Rattle.candidate.specs.Store.{Lists, Given, lists, store, counts, edges, spot, spotOf, visitOf, at, estimateAt, kindOf, leadKind, place, placeOf, made, placed, linked, paired, planFor, dueOf, written, applied, attempt}
+use Rattle.candidate.specs.Store.{Lists, Given, lists, store, counts, edges, spot, spotOf, visitOf, at, estimateAt, kindOf, leadKind, place, placeOf, made, placed, linked, paired, planFor, dueOf, written, applied, attempt, leafWritten}
 
 pub getD-any : {A : Type 0} (l : List A) (i : ℕ) (d e : A) → i < length l → getD l i d ≡ getD l i e
 getD-any [] i d e h = absurd (omega arith)
@@ -204,3 +206,8 @@ module _ (g : Given) (a b : ℕ) (h : Lists) (p : DPhyp) where
       go true Absent v q = absurd (false≢true q)
       go true (Plan l) Absent q = absurd (false≢true q)
       go true (Plan l) (Plan r) q = link (bitOr a b) (l .0) (r .0) (connection (edges g) (g .selectivity) a b (product (at h (l .0)) (at h (r .0)))) q
+
+-- ---- a leaf
+
+pub leaf-is : (h : Lists) (k s : ℕ) (e : Estimate) {x : Lists} → x ≡ written h k s (made k k none32 leaf e (place k k (k + 1))) → s ≡ singleton k → x ≡ leafWritten h k e
+leaf-is h k s e q z = q ∙ ap (λ (t : ℕ). written h k t (made k k none32 leaf e (place k k (k + 1)))) z

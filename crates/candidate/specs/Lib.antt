@@ -4,3 +4,4 @@ pub mod Laws
 pub mod MemoHeld
 pub mod CandidateHeld
 pub mod SearchHeld
+pub mod LeavesHeld

@@ -8,7 +8,8 @@ use lib.Dec.{ltb, eqb}
 use lib.Bits.{bitOr}
 use lib.Ieee.{Float, binary64, ofBits}
 use Rattle.definition.specs.Answers.{plansFull, memoFull, visitsSpent}
-use Rattle.definition.specs.Question.{inner, crossProduct}
+use Rattle.nodeset.specs.Sets.{singleton}
+use Rattle.definition.specs.Question.{inner, crossProduct, leaf}
 use Rattle.definition.specs.Hypergraph.{Edge, none32}
 use Rattle.definition.specs.EdgeView.{edgesOf}
 use Rattle.definition.specs.Cost.{Estimate, product, candidateFrom, cheaper}
@@ -187,3 +188,9 @@ applied s st (Make c) = store (written (st .held) (st .at .plans) s c) (counts (
 
 unfoldable pub attempt : Given → ℕ → ℕ → Store → Store
 attempt g a b st = applied (bitOr a b) st (dueOf g (st .held) (st .at) a b)
+
+-- ---- a leaf
+
+-- "A leaf names itself twice, lead edge 4,294,967,295, kind 9": plan and memo entry k
+abbrev pub leafWritten : Lists → ℕ → Estimate → Lists
+leafWritten h k e = written h k (singleton k) (made k k none32 leaf e (place k k (k + 1)))

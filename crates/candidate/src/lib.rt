@@ -3,12 +3,13 @@
 // do nothing, so that no function asks for room.
 ghost use mathlib.Core.Path.{_≡_};
 ghost use mathlib.Core.List.{List};
-ghost use Prim.Native.Nat.{ℕ};
+ghost use Prim.Native.Nat.{ℕ, _<_};
 ghost use lib.ListN.{getD, set, take};
 ghost use Rattle.cost.specs.View.{estimateOf};
 ghost use Rattle.definition.specs.EdgeView.{Held};
-ghost use Rattle.candidate.specs.Store.{given, lists, store, spot, keptOf, isAt, counts, visitOf, zero, estimateAt, kindOf, leadKind, placeOf, Decides, written, attempt};
+ghost use Rattle.candidate.specs.Store.{given, lists, store, spot, keptOf, isAt, counts, visitOf, zero, estimateAt, kindOf, leadKind, placeOf, Decides, written, leafWritten, attempt};
 use cost::Estimate;
+use nodeset::NodeId;
 use nodeset::PlanId;
 
 // No edge.
@@ -441,4 +442,51 @@ pub fn emit_csg_cmp(
             }
         }
     }
+}
+
+// Writes the plan and the memo entry of leaf k.
+pub fn write_leaf(
+    pset: &mut [u64],
+    pleft: &mut [u32],
+    pright: &mut [u32],
+    plead: &mut [u32],
+    pkind: &mut [u32],
+    prows: &mut [f64],
+    pcost: &mut [f64],
+    mset: &mut [u64],
+    mplan: &mut [u32],
+    k: NodeId,
+    e: Estimate,
+)
+    requires { ⌜ k .0 < 64 ⌝ }
+    ensures { λ r. ⌜ lists (now (pset .exit)) (now (pleft .exit)) (now (pright .exit)) (now (plead .exit)) (now (pkind .exit)) (now (prows .exit)) (now (pcost .exit)) (now (mset .exit)) (now (mplan .exit)) ≡ leafWritten (lists (now (pset .entry)) (now (pleft .entry)) (now (pright .entry)) (now (plead .entry)) (now (pkind .entry)) (now (prows .entry)) (now (pcost .entry)) (now (mset .entry)) (now (mplan .entry))) (k .0) (estimateOf e) ⌝ }
+{
+    let at = k.0;
+    let c = Candidate {
+        left: PlanId(at),
+        right: PlanId(at),
+        lead: NONE,
+        kind: 9,
+        estimate: e,
+        place: Place {
+            position: at,
+            best: PlanId(at),
+            entries: at + 1,
+        },
+    };
+    let s = nodeset::nodeset_singleton(k);
+    write(
+        pset,
+        pleft,
+        pright,
+        plead,
+        pkind,
+        prows,
+        pcost,
+        mset,
+        mplan,
+        at,
+        s,
+        c,
+    );
 }
