@@ -1,0 +1,3 @@
+pub mod Views
+pub mod TableLaws
+pub mod Laws
