@@ -24,7 +24,7 @@ pub mod SheetSamples
 pub mod CandidateOrder
 pub mod CandidateSamples
 pub mod CostSamples
-pub mod Samples
+pub mod DocumentSamples
 pub mod PlanRuleSamples
 -- Laws and theorems.
 pub mod ListLaws
