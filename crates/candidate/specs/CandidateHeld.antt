@@ -12,6 +12,7 @@ use lib.Dec.{ltb, eqb}
 use lib.Bits.{bitOr}
 use lib.Ieee.{Float}
 use borrow.Author.Tests.{eq-eqb, ne-eqb, eqb-true, eqb-false, ltb-true, ltb-false, lt-ltb, le-ltb}
+use Rattle.definition.specs.Lists.{column}
 use Rattle.definition.specs.Answers.{plansFull, memoFull}
 use Rattle.definition.specs.Hypergraph.{Edge, none32, noEdge, leadOf, connecting}
 use Rattle.definition.specs.Cost.{Estimate, product, candidateFrom, cheaper}
@@ -28,7 +29,7 @@ use Rattle.candidate.specs.declared.Room.the-variants.{Here}
 use Rattle.candidate.specs.declared.Due.the-variants.{Stop, Skip}
 use Rattle.candidate.specs.Store as S
 use Rattle.candidate.specs.Store.{Lists, Given, store, counts, edges, spot, spotOf, at, kindOf, leadKind, planId, place, placeOf, planFor, dueOf}
-use Rattle.candidate.specs.Held.{inputFor, column, holding, Roomy}
+use Rattle.candidate.specs.Held.{inputFor, holding, Roomy}
 use Rattle.candidate.specs.Laws.{lists-eq, attempt-skip, attempt-stop, attempt-make, due-stopped, due-no-left, due-no-right, due-none, due-full, due-no-place, due-place, place-new, place-full, place-cheaper, place-old}
 use Rattle.candidate.specs.MemoHeld.{sets, plans, Seated, seated, unseated, toKept, spot-held, plan-for}
 

@@ -1,7 +1,8 @@
 -- The lent lists hold the search's state. Definitions only.
-use mathlib.Core.List.{List, _++_, map}
+use mathlib.Core.List.{List}
 use Prim.Native.Nat.{ℕ, _≤_}
-use lib.ListN.{length, drop}
+use lib.ListN.{length}
+use Rattle.definition.specs.Lists.{column}
 use Rattle.definition.specs.Search.{Plan, Entry, Leaf, Input, State}
 use Rattle.candidate.specs.Store.{Lists, Store, Given, lists, store, counts, edges}
 
@@ -9,10 +10,6 @@ use Rattle.candidate.specs.Store.{Lists, Store, Given, lists, store, cou
 abbrev pub inputFor : Given → List Leaf → ℕ → Input
 inputFor g ls limit =
     record { leaves = ls; edges = edges g; kinds = g .kinds; selectivities = g .selectivity; planRoom = g .planRoom; memoRoom = g .memoRoom; limit = limit }
-
--- one field's list: the entries, then what the lent list l has behind them
-abbrev pub column : {A B : Type 0} → (A → B) → List A → List B → List B
-column f xs l = map f xs ++ drop (length xs) l
 
 -- the lists lent as h, holding st
 abbrev pub holding : Lists → State → Store

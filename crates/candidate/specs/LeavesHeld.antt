@@ -7,6 +7,7 @@ use native.Mathlib.Numerals.{add-one}
 use lib.ListN.{length, set, length-append}
 use lib.Seq.{append-snoc}
 use Rattle.nodeset.specs.Sets.{singleton}
+use Rattle.definition.specs.Lists.{column}
 use Rattle.definition.specs.Question.{leaf}
 use Rattle.definition.specs.Hypergraph.{none32}
 use Rattle.definition.specs.Cost.{leafEstimate}
@@ -15,7 +16,7 @@ use Rattle.definition.specs.MemoLaws.{leafPlans-length}
 use Rattle.candidate.specs.declared.DPhyp.{DPhyp}
 use Rattle.candidate.specs.Store as S
 use Rattle.candidate.specs.Store.{Lists, Given, store, counts, leafWritten}
-use Rattle.candidate.specs.Held.{inputFor, column, holding, Roomy}
+use Rattle.candidate.specs.Held.{inputFor, holding, Roomy}
 use Rattle.candidate.specs.Laws.{lists-eq}
 use Rattle.candidate.specs.CandidateHeld.{put}
 

@@ -46,7 +46,7 @@ two-below i is h e w = go (ltb h 2) refl (rw (e, endsWithOne) at w)
 
 module _ (q : OpenQuestion) where
   -- one item, of a walk that is right from there on
-  item-height : (j : ℕ) (i : OpenItem) (is : List OpenItem) (b : Build) → endsWithOne (i ∷ is) (height b) ≡ true
+  pub item-height : (j : ℕ) (i : OpenItem) (is : List OpenItem) (b : Build) → endsWithOne (i ∷ is) (height b) ≡ true
       → endsWithOne is (height (buildItem join q j i b)) ≡ true
   unfolding endsWithOne buildItem leafItem
   item-height j i is b w = go (eqb (i .kind) leaf) refl
@@ -129,7 +129,7 @@ module _ (q : OpenQuestion) where
       go false = other-count s j t (i .range .first) ps b
 
   -- an item and those after it
-  item-count : (j : ℕ) (i : OpenItem) (is : List OpenItem) (b : Build) → JoinFits i → endsWithOne (i ∷ is) (height b) ≡ true
+  pub item-count : (j : ℕ) (i : OpenItem) (is : List OpenItem) (b : Build) → JoinFits i → endsWithOne (i ∷ is) (height b) ≡ true
       → edgesSoFar (buildItem join q j i b) + edgeCount is ≡ edgesSoFar b + edgeCount (i ∷ is)
   unfolding buildItem leafItem crossItem edgeCount
   item-count j i is b f w = go (eqb (i .kind) leaf) refl
