@@ -1,14 +1,13 @@
 -- What stops the search, and its ending. Assumes nothing.
-use mathlib.Core.Path.{_≡_, refl, sym, ap, _∙_}
+use mathlib.Core.Path.{_≡_, refl}
 use mathlib.Core.Bool.{Bool, true, false, _||_}
 use mathlib.Core.List.{List, [], _∷_}
 use mathlib.Core.Option.{Option, none, some}
 use Prim.Native.Nat.{ℕ}
-use lib.ListN.{length, drop}
+use lib.ListN.{length}
 use lib.Dec.{eqb, ltb}
 use lib.Bits.{bitOr}
 use borrow.Author.Tests.{eq-eqb, ne-eqb}
-use Rattle.nodeset.specs.Sets.{allBelow}
 use Rattle.nodeset.specs.SubsetLaws.{All}
 use Rattle.definition.specs.Answers.{plansFull, memoFull, visitsSpent}
 use Rattle.definition.specs.Hypergraph.{Sided, connecting}

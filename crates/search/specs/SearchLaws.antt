@@ -1,18 +1,18 @@
 -- The leaves one by one, and the search from them: the lists hold the definition's search. Assumes nothing.
-use mathlib.Core.Path.{_≡_, refl, sym, ap, ap₂, _∙_}
-use mathlib.Core.List.{List, [], _∷_}
+use mathlib.Core.Path.{_≡_, sym, ap, ap₂, _∙_}
+use mathlib.Core.List.{List}
 use Prim.Native.Nat.{ℕ, suc, _+_, _<_, _≤_}
 use native.Mathlib.Nat.{le-antisymm}
 use native.Mathlib.Numerals.{add-one}
 use native.Mathlib.Omega.{arith}
-use lib.ListN.{length, getD, take, drop}
+use lib.ListN.{length, getD, drop}
 use Rattle.nodeset.specs.Sets.{allBelow}
 use Rattle.definition.specs.Cost.{Estimate, leafEstimate}
 use Rattle.definition.specs.Hypergraph.{none32}
 use Rattle.definition.specs.ListLaws.{length-tabulate, tabulate-at, tabulate-end}
-use Rattle.definition.specs.Search.{Leaf, Input, search, find, ending, chosenPlan}
+use Rattle.definition.specs.Search.{Leaf, Input, search, find}
 use Rattle.candidate.specs.declared.DPhyp.{DPhyp}
-use Rattle.candidate.specs.Store.{Given, Lists, Store, store, counts, spot, keptOf, leafWritten}
+use Rattle.candidate.specs.Store.{Given, Lists, Store, store, counts, planFor, leafWritten}
 use Rattle.candidate.specs.Held.{inputFor, holding}
 use Rattle.candidate.specs.LeavesHeld.{leavesWritten, leaves-held}
 use Rattle.candidate.specs.SearchHeld.{search-held}
@@ -58,15 +58,15 @@ module _ (g : Given) (h : Lists) (n : ℕ) (ready : Ready g h n) (ls : List Leaf
       ∙ search-held g ls limit h (ready .room) few (ready .sided)
 
   -- the ending that the lists and counts left by the search give
-  pub ends-is : (u : Lists) (p : DPhyp) {e : Ending} → store u p ≡ holding h (search I)
-      → e ≡ endingOf (p .stop) (keptOf (u .mplan) (spot 0 (take (p .memo) (u .mset)) (allBelow n))) → Ends I e
-  ends-is u p {e} w d =
+  pub ends-is : {u : Lists} {p : DPhyp} {e : Ending} → store u p ≡ holding h (search I)
+      → e ≡ endingOf (p .stop) (planFor u p (allBelow n)) → Ends I e
+  ends-is {u} {p} {e} w d =
       let st = search I in
       let m = st .memo in
       let o = find m (allBelow (length ls)) in
       let f : e ≡ endingOf (st .stop) _ =
-      d ∙ ap (λ (s : Store). endingOf (s .at .stop) (keptOf (s .held .mplan) (spot 0 (take (s .at .memo) (s .held .mset)) (allBelow n)))) w
-      ∙ ap (λ (k : ℕ). endingOf (st .stop) (keptOf (holding h st .held .mplan) (spot 0 (take (length m) (holding h st .held .mset)) (allBelow k)))) (sym many)
+      d ∙ ap (λ (s : Store). endingOf (s .at .stop) (planFor (s .held) (s .at) (allBelow n))) w
+      ∙ ap (λ (k : ℕ). endingOf (st .stop) (planFor (holding h st .held) (holding h st .at) (allBelow k))) (sym many)
       ∙ ap (endingOf (st .stop)) (plan-for m (drop (length m) (h .mset)) (drop (length m) (h .mplan)) (allBelow (length ls))) in
       let q = ending-is (st .stop) o (search-stop I (ready .sided)) in
       (ap endingNumber f ∙ q .0, ap chosenOf f ∙ q .1)

@@ -57,11 +57,12 @@ Ends i e =
     let st = search i in
     (endingNumber e ≡ ending (st .stop) (complete i st)) × (chosenOf e ≡ chosenPlan (st .stop) (complete i st))
 
--- where nothing stopped the search; the plan kept for the set of all leaves
+-- where nothing stopped the search, from the plan kept for the set of all leaves
 abbrev pub endingFor : Kept → Ending
 endingFor (Plan p) = Planned p
 endingFor Absent = NoPlan
 
+-- from the stop's number and that plan
 unfoldable pub endingOf : ℕ → Kept → Ending
 endingOf stop k =
     elim (eqb stop plansFull) [
