@@ -19,7 +19,8 @@ use Rattle.candidate.specs.SearchHeld.{search-held}
 use Rattle.candidate.specs.MemoHeld.{plan-for}
 use Rattle.dphyp.specs.Walks.{storeSolve}
 use Rattle.search.specs.declared.Ending.{Ending}
-use Rattle.search.specs.View.{leafAt, leavesFrom, Ready, Ends, endingNumber, chosenOf, endingOf}
+use Rattle.definition.specs.LeafView.{leafAt, leavesFrom}
+use Rattle.search.specs.View.{Ready, Ends, endingNumber, chosenOf, endingOf}
 use Rattle.search.specs.EndingLaws.{search-stop, ending-is}
 
 module _ (n : ℕ) (rows columns : List ℕ) where

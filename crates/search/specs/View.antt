@@ -1,16 +1,13 @@
 -- What the search asks of its caller, and its result in the definition's terms. Definitions only.
 use mathlib.Core.Path.{_≡_}
 use mathlib.Core.Bool.{true, false}
-use mathlib.Core.List.{List}
 use Prim.Native.Nat.{ℕ, _≤_}
-use lib.ListN.{getD}
 use lib.Dec.{eqb}
 use Rattle.nodeset.specs.SubsetLaws.{All}
 use Rattle.definition.specs.Answers.{planned, plansFull, memoFull, visitsSpent, noPlan}
-use Rattle.definition.specs.Lists.{tabulate}
 use Rattle.definition.specs.Hypergraph.{none32, Sided}
 use Rattle.definition.specs.EdgeView.{Held}
-use Rattle.definition.specs.Search.{Leaf, Input, search, complete, ending, chosenPlan}
+use Rattle.definition.specs.Search.{Input, search, complete, ending, chosenPlan}
 use Rattle.candidate.specs.Store as store
 use Rattle.candidate.specs.Store.{Given, Lists}
 use Rattle.candidate.specs.Held.{Roomy}
@@ -18,13 +15,6 @@ use Rattle.candidate.specs.declared.Kept.{Kept}
 use Rattle.candidate.specs.declared.Kept.the-variants.{Plan, Absent}
 use Rattle.search.specs.declared.Ending.{Ending}
 use Rattle.search.specs.declared.Ending.the-variants.{Planned, NoPlan, PlansFull, MemoFull, VisitsSpent}
-
-abbrev pub leafAt : List ℕ → List ℕ → ℕ → Leaf
-leafAt rows columns k = record { rows = getD rows k 0; columns = getD columns k 0 }
-
--- the first n leaves
-unfoldable pub leavesFrom : ℕ → List ℕ → List ℕ → List Leaf
-leavesFrom n rows columns = tabulate n (leafAt rows columns)
 
 -- the edges' lists have their places, each edge two sides; the leaves fit a set and both stores, and the lists are as long as their stores
 pub record Ready (g : Given) (h : Lists) (n : ℕ) : Type 0 where

@@ -2,7 +2,7 @@
 use mathlib.Core.Path.{_∙_}
 use native.Mathlib.Omega.{arith}
 use Rattle.candidate.specs.Store.{given, lists}
-use Rattle.search.specs.View.{leavesFrom}
+use Rattle.definition.specs.LeafView.{leavesFrom}
 use Rattle.search.specs.SearchLaws.{leaves-length, search-is, ends-is}
 use Rattle.search.proofs.search.Statement.{statement}
 use Rattle.search.proofs.search.Tie as tie

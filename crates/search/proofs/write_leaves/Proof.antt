@@ -5,7 +5,7 @@ use native.Mathlib.Omega.{arith}
 use Rattle.candidate.specs.Store.{lists}
 use Rattle.candidate.specs.LeavesHeld.{leavesWritten}
 use Rattle.dphyp.specs.WalkLaws.{SameLengths, lengths-trans, lengths-refl}
-use Rattle.search.specs.View.{leavesFrom}
+use Rattle.definition.specs.LeafView.{leavesFrom}
 use Rattle.search.specs.SearchLaws.{Remaining, remaining-next, remaining-end}
 use Rattle.search.proofs.write_leaves.Statement.{statement}
 use Rattle.search.proofs.write_leaves.Tie as tie
