@@ -19,6 +19,7 @@ pub mod Search
 pub mod Call
 pub mod Kept
 pub mod PlanRule
+pub mod OpenRule
 -- Computed examples.
 pub mod SheetSamples
 pub mod CandidateOrder
@@ -49,4 +50,5 @@ pub mod UntypedEdges
 pub mod EdgeLaws
 pub mod EdgeCount
 pub mod InputLaws
+pub mod OpenSheetLaws
 pub mod RecordSetLaws
