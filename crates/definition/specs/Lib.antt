@@ -50,5 +50,7 @@ pub mod UntypedEdges
 pub mod EdgeLaws
 pub mod EdgeCount
 pub mod InputLaws
+pub mod PlanRuleLaws
 pub mod OpenSheetLaws
+pub mod OpenRuleLaws
 pub mod RecordSetLaws

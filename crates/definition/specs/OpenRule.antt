@@ -1,13 +1,15 @@
--- Demand 3, the open-list rule, over the whole call: what of an outcome is open to all, and which sheets are compared. Definitions only.
+-- Demand 3, the open-list rule, for the whole call from the sheet's bytes: what of an outcome is open, and which sheets are compared.
+-- Definitions only.
 use mathlib.Core.Path.{_≡_}
+use mathlib.Core.Bool.{true}
 use mathlib.Core.List.{List, map}
 use Prim.Native.Nat.{ℕ, _+_, _≤_, _<_}
 use lib.ListN.{length, getD}
 use Rattle.definition.specs.Question.{leaf}
-use Rattle.definition.specs.Sheet.{itemCount, predicateCount, rowsAt, selectivityAt, itemAt, predicateAt}
+use Rattle.definition.specs.Sheet.{Bytes, itemCount, predicateCount, rowsAt, selectivityAt, itemAt, predicateAt}
 use Rattle.definition.specs.Hypergraph.{Edge}
 use Rattle.definition.specs.Search.{Entry, Pair}
-use Rattle.definition.specs.Call.{Outcome}
+use Rattle.definition.specs.Call.{Rooms, Outcome, accepted, leavesIn, call}
 use Rattle.definition.specs.PlanRule.{pairsIn}
 
 -- ---- what is open
@@ -58,3 +60,12 @@ pub record SameOpenBytes (bs cs : List ℕ) : Type 0 where
 -- "row counts and shares within their limits": "share (0 to 65,536 ..)", and any word may be a row count
 abbrev pub SelectivitiesFit : List ℕ → Type 0
 SelectivitiesFit bs = (p : ℕ) → p < predicateCount bs → predicateAt bs p .selectivity ≤ 65536
+
+-- ---- the rule
+
+-- "Whatever row counts and shares within their limits replace those of an accepted sheet, with stores and all other lent memory equally long and
+-- the same look limit": of the outcome o of a call on bs with these stores and this limit
+abbrev pub OpenListRule : List ℕ → Rooms → ℕ → Outcome → Type 0
+OpenListRule bs rooms limit o =
+    (cs : List ℕ) → Bytes cs → SameOpenBytes bs cs → SelectivitiesFit cs
+    → (accepted cs rooms ≡ true) × (openPart (leavesIn bs) o ≡ openPart (leavesIn bs) (call cs rooms limit))
