@@ -27,6 +27,7 @@ pub mod CandidateSamples
 pub mod CostSamples
 pub mod DocumentSamples
 pub mod PlanRuleSamples
+pub mod OpenRuleSamples
 -- Laws and theorems.
 pub mod ListLaws
 pub mod AllLaws

@@ -68,4 +68,4 @@ SelectivitiesFit bs = (p : ℕ) → p < predicateCount bs → predicateAt bs p .
 abbrev pub OpenListRule : List ℕ → Rooms → ℕ → Outcome → Type 0
 OpenListRule bs rooms limit o =
     (cs : List ℕ) → Bytes cs → SameOpenBytes bs cs → SelectivitiesFit cs
-    → (accepted cs rooms ≡ true) × (openPart (leavesIn bs) o ≡ openPart (leavesIn bs) (call cs rooms limit))
+    → (accepted cs rooms ≡ true) × (openPart (leavesIn bs) o ≡ openPart (leavesIn cs) (call cs rooms limit))

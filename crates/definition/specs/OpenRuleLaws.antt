@@ -21,7 +21,7 @@ use Rattle.definition.specs.PlanRuleLaws.{accepted-call, call-searched, 
 use Rattle.definition.specs.OpenSheetLaws.{question-same, sheet-answer-same}
 
 module _ (bs cs : List ℕ) (rooms : Rooms) (a : accepted bs rooms ≡ true) (s : SameOpenBytes bs cs) (fit : SelectivitiesFit cs) where
-  same-question : openQuestion (questionOf bs) ≡ openQuestion (questionOf cs)
+  pub same-question : openQuestion (questionOf bs) ≡ openQuestion (questionOf cs)
   same-question = question-same bs cs (accepted-call bs rooms a .framed) s
 
   -- ---- the other sheet is accepted too: answers 1 to 9, then 10 and 11, read nothing else
@@ -63,7 +63,7 @@ module _ (bs cs : List ℕ) (rooms : Rooms) (a : accepted bs rooms ≡ true) (s 
 
     -- ---- so the open part is the same
 
-    pub call-open-same : Bytes bs → Bytes cs → openPart (leavesIn bs) (call bs rooms limit) ≡ openPart (leavesIn bs) (call cs rooms limit)
+    call-open-same : Bytes bs → Bytes cs → openPart (leavesIn bs) (call bs rooms limit) ≡ openPart (leavesIn cs) (call cs rooms limit)
     unfolding searched
     call-open-same here-bytes there-bytes =
         let sided = call-limits bs rooms a here-bytes limit .edges in
@@ -74,7 +74,6 @@ module _ (bs cs : List ℕ) (rooms : Rooms) (a : accepted bs rooms ≡ true) (s 
         let edges = form .edges in
         let pairs = call-pairs bs here-bytes rooms limit in
         let pairs' = call-pairs cs there-bytes rooms limit in
-        let leaves = ap (λ (q : OpenQuestion). leafCount (q .items)) same-question in
         let tried = r .tried in
         let plans = r .plans in
         let sets = r .memo in
