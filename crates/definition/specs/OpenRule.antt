@@ -57,7 +57,7 @@ pub record SameOpenBytes (bs cs : List ℕ) : Type 0 where
   pub size : length bs ≡ length cs
   pub same : (k : ℕ) → (Confidential bs k → ⊥) → getD bs k 0 ≡ getD cs k 0
 
--- "row counts and shares within their limits": "share (0 to 65,536 ..)", and any word may be a row count
+-- "row counts and shares within their limits": "share (0 to 65,536 ..)"; a row count may be any word of four bytes
 abbrev pub SelectivitiesFit : List ℕ → Type 0
 SelectivitiesFit bs = (p : ℕ) → p < predicateCount bs → predicateAt bs p .selectivity ≤ 65536
 

@@ -1,21 +1,17 @@
 -- The open-list rule for the whole call, from the sheet's bytes. Assumes nothing.
 use mathlib.Core.Path.{_≡_, refl, sym, ap, ap₂, _∙_}
 use mathlib.Core.Bool.{true, _||_}
-use mathlib.Core.List.{List, [], _∷_, map}
+use mathlib.Core.List.{List, [], _∷_}
 use Prim.Native.Nat.{ℕ, zero, suc}
-use lib.ListN.{length, length-map}
 use lib.Dec.{eqb, ltb}
-use Rattle.nodeset.specs.SubsetLaws.{All}
 use Rattle.definition.specs.Answers.{tooManyEdges, storeTooSmall}
 use Rattle.definition.specs.Question.{OpenQuestion, openQuestion, leafCount}
 use Rattle.definition.specs.Sheet.{Bytes, check, firstFailing, questionOf}
-use Rattle.definition.specs.Hypergraph.{Edge}
 use Rattle.definition.specs.Edges.{buildHypergraph, edgeCount}
-use Rattle.definition.specs.Search.{Entry, Pair, Input, search}
-use Rattle.definition.specs.Call.{Rooms, Outcome, refusedWith, accepted, leavesIn, inputOf, searched, call}
-use Rattle.definition.specs.PlanRule.{pairsIn}
-use Rattle.definition.specs.OpenRule.{OpenPart, openPart, SameOpenBytes, SelectivitiesFit, OpenListRule}
-use Rattle.definition.specs.OpenSearch.{SameForm, SameOpen, search-same, answer-same, memo-length}
+use Rattle.definition.specs.Search.{Input, search}
+use Rattle.definition.specs.Call.{Rooms, refusedWith, accepted, leavesIn, inputOf, searched, call}
+use Rattle.definition.specs.OpenRule.{openPart, SameOpenBytes, SelectivitiesFit, OpenListRule}
+use Rattle.definition.specs.OpenSearch.{SameForm, search-same, answer-same, memo-length}
 use Rattle.definition.specs.InputLaws.{leaves-counted}
 use Rattle.definition.specs.PlanRuleLaws.{accepted-call, call-searched, call-limits, call-pairs}
 use Rattle.definition.specs.OpenSheetLaws.{question-same, sheet-answer-same}

@@ -5,7 +5,7 @@ use mathlib.Core.Bool.{Bool, true, false, _&&_, false≢true}
 use mathlib.Core.List.{List, [], _∷_}
 use Prim.Native.Nat.{ℕ, zero, suc}
 use native.Mathlib.Nat.{not-suc-le-zero, le-of-suc-le-suc}
-use lib.ListN.{length, getD, set, length-set}
+use lib.ListN.{set, length-set}
 use lib.Seq.{getD-set-other}
 use lib.Dec.{ltb, lit<, lit≤}
 use borrow.Author.Tests.{ltb-true}

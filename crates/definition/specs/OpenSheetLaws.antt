@@ -1,8 +1,7 @@
 -- Two sheets with the same open bytes ask the same open question, and the sheet check says the same of both. Assumes nothing.
 use mathlib.Core.Path.{_≡_, refl, sym, ap, ap₂, _∙_, subst}
-use mathlib.Core.Logic.{inl, inr}
 use mathlib.Core.Bool.{Bool, true, false, _&&_, _||_, not}
-use mathlib.Core.List.{List, [], _∷_, _++_, map}
+use mathlib.Core.List.{List, [], _∷_, _++_}
 use Prim.Native.Nat.{ℕ, zero, suc, _+_, _*_, _≤_, _<_}
 use native.Mathlib.Nat.{le-refl}
 use native.Mathlib.Omega.{arith}
@@ -12,10 +11,10 @@ use borrow.Author.Tests.{eqb-false, le-ltb}
 use Rattle.definition.specs.Answers.{unknownKind, reservedNotZero, rangePastTable, selectivityAboveOne, tooManyLeaves, brokenWalk}
 use Rattle.definition.specs.Lists.{tabulate, concatMap}
 use Rattle.definition.specs.Question.{Range, fits, Item, Predicate, Question, OpenItem, OpenQuestion, crossProduct, leaf, openItem, openQuestion, leafCount, isWalk}
-use Rattle.definition.specs.Sheet.{word, itemCount, predicateCount, columnCount, columnOffset, itemStart, rowsAt, selectivityAt, range, itemAt, predicateAt, columnAt, questionOf, Check, check, firstFailing, reservedIsSet, itemChecks, predicateChecks, walkChecks, questionAnswer, sheetAnswer}
+use Rattle.definition.specs.Sheet.{word, itemCount, predicateCount, columnCount, columnOffset, itemStart, rowsAt, selectivityAt, range, itemAt, predicateAt, columnAt, questionOf, Check, check, firstFailing, reservedIsSet, itemChecks, predicateChecks, questionAnswer, sheetAnswer}
 use Rattle.definition.specs.Accepted.{Framed, AcceptedSheet}
-use Rattle.definition.specs.ListLaws.{length-tabulate, tabulate-same, map-tabulate, concat-same}
-use Rattle.definition.specs.SheetLaws.{length-predicates, length-columns, predicate-is, true-or-false, headerAnswer, accepted}
+use Rattle.definition.specs.ListLaws.{tabulate-same, map-tabulate, concat-same}
+use Rattle.definition.specs.SheetLaws.{length-predicates, length-columns, predicate-is, headerAnswer}
 use Rattle.definition.specs.OpenRule.{InWord, Confidential, in-rows, in-selectivity, SameOpenBytes, SelectivitiesFit}
 
 -- ---- word by word

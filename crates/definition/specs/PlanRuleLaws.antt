@@ -3,16 +3,16 @@
 use mathlib.Core.Path.{_≡_, refl, sym, ap, _∙_, subst}
 use mathlib.Core.Bool.{true}
 use mathlib.Core.List.{List, [], map}
-use Prim.Native.Nat.{ℕ, zero, suc, _<_, zero-le}
-use native.Mathlib.Nat.{not-suc-le-zero, suc-ne-zero}
-use lib.ListN.{length, drop-of-length-le}
+use Prim.Native.Nat.{ℕ, zero, suc, zero-le}
+use native.Mathlib.Nat.{not-suc-le-zero}
+use lib.ListN.{drop-of-length-le}
 use lib.Dec.{eqb}
 use borrow.Author.Tests.{eqb-true}
-use Rattle.definition.specs.Sheet.{Bytes, firstFailing, questionOf, sheetAnswer}
+use Rattle.definition.specs.Sheet.{Bytes, questionOf, sheetAnswer}
 use Rattle.definition.specs.Accepted.{AcceptedSheet}
 use Rattle.definition.specs.SheetLaws.{accepted as sheet-accepted}
 use Rattle.definition.specs.Search.{Pair, Input}
-use Rattle.definition.specs.Call.{Rooms, Outcome, refusedWith, edgeChecks, storeChecks, accepted, refusal, leavesIn, inputOf, searched, call}
+use Rattle.definition.specs.Call.{Rooms, Outcome, refusedWith, accepted, refusal, leavesIn, inputOf, searched, call}
 use Rattle.definition.specs.PlanRule.{WithinLimits, PlanRule, pairIn, pairsIn, CallPlanRule, AllFinite}
 use Rattle.definition.specs.InputLaws.{leaves-counted, accepted-limits}
 use Rattle.definition.specs.KeptSearch.{searched-rule, searched-pairs}
