@@ -67,6 +67,10 @@ refusal n = record { answer = n; edges = []; plans = []; memo = []; visits = 0; 
 
 -- ---- what is searched
 
+-- the number of leaves
+abbrev pub leavesIn : List ℕ → ℕ
+leavesIn bs = leafCount (openQuestion (questionOf bs) .items)
+
 unfoldable pub leavesOf : List Item → List Leaf
 leavesOf [] = []
 leavesOf (i ∷ is) = elim (eqb (i .kind) leaf) [ true ↦ record { rows = i .rows; columns = i .range .count } ∷ leavesOf is | false ↦ leavesOf is ]

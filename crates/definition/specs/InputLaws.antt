@@ -3,16 +3,16 @@
 use mathlib.Core.Path.{_≡_, refl, sym, ap, subst}
 use mathlib.Core.Bool.{Bool, true, false}
 use mathlib.Core.List.{List, [], _∷_, map}
-use Prim.Native.Nat.{ℕ, suc, _+_, _*_, _^_, _≤_, _<_}
+use Prim.Native.Nat.{ℕ, suc, _^_, _≤_, _<_}
 use native.Mathlib.Nat.{le-trans, le-of-eq}
 use native.Mathlib.Omega.{arith}
-use lib.ListN.{length, getD}
+use lib.ListN.{length}
 use lib.Dec.{eqb}
 use borrow.Author.Tests.{eqb-true}
 use Rattle.nodeset.specs.SubsetLaws.{All}
 use Rattle.definition.specs.Question.{Item, Predicate, Question, leaf, item, openItem, openQuestion, leafCount}
 use Rattle.definition.specs.QuestionLaws.{length-open-predicates}
-use Rattle.definition.specs.Sheet.{itemOffset, questionOf}
+use Rattle.definition.specs.Sheet.{Bytes, rowsAt, questionOf}
 use Rattle.definition.specs.SheetLaws.{length-items, item-is, word-bound}
 use Rattle.definition.specs.Accepted.{Sound, AcceptedSheet}
 use Rattle.definition.specs.GoodEdge.{GoodEdge}
@@ -80,7 +80,7 @@ module _ (q : Question) (sound : Sound q) where
         }
 
 -- a sheet whose bytes are bytes: a leaf's rows are a 32-bit word
-pub accepted-limits : (bs : List ℕ) → AcceptedSheet bs → ((i : ℕ) → getD bs i 0 < 256) → (rooms : Rooms) (limit : ℕ) → WithinLimits (inputOf (questionOf bs) rooms limit)
+pub accepted-limits : (bs : List ℕ) → AcceptedSheet bs → Bytes bs → (rooms : Rooms) (limit : ℕ) → WithinLimits (inputOf (questionOf bs) rooms limit)
 accepted-limits bs a bytes rooms limit =
     sound-limits (questionOf bs) (a .sound) rooms limit (a .few-columns)
-    (λ i h. omega (arith, ap (λ (x : Item). x .rows) (item-is bs i (omega (arith, length-items bs))), word-bound bs bytes (itemOffset bs + 16 * i + 4)))
+    (λ i h. omega (arith, ap (λ (x : Item). x .rows) (item-is bs i (omega (arith, length-items bs))), word-bound bs bytes (rowsAt bs i)))

@@ -20,6 +20,7 @@ pub mod LeafView
 pub mod Call
 pub mod Kept
 pub mod PlanRule
+pub mod OpenRule
 -- Computed examples.
 pub mod SheetSamples
 pub mod CandidateOrder
@@ -27,6 +28,7 @@ pub mod CandidateSamples
 pub mod CostSamples
 pub mod DocumentSamples
 pub mod PlanRuleSamples
+pub mod OpenRuleSamples
 -- Laws and theorems.
 pub mod ListLaws
 pub mod AllLaws
@@ -50,4 +52,7 @@ pub mod UntypedEdges
 pub mod EdgeLaws
 pub mod EdgeCount
 pub mod InputLaws
+pub mod PlanRuleLaws
+pub mod OpenSheetLaws
+pub mod OpenRuleLaws
 pub mod RecordSetLaws

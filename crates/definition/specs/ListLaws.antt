@@ -8,7 +8,7 @@ use native.Mathlib.Numerals.{add-one}
 use native.Mathlib.Omega.{arith}
 use lib.ListN.{length, getD, take, drop, length-append, List·getD-append}
 use lib.Seq.{take-suc, drop-length, drop-cons, getD-at}
-use Rattle.definition.specs.Lists.{tabulate}
+use Rattle.definition.specs.Lists.{tabulate, concatMap}
 
 module _ {A : Type 0} where
   pub length-tabulate : (n : ℕ) (f : ℕ → A) → length (tabulate n f) ≡ n
@@ -54,3 +54,15 @@ pub tabulate-take : (n : ℕ) (l : List ℕ) → n ≤ length l → tabulate n (
 unfolding tabulate
 tabulate-take zero l h = refl
 tabulate-take (suc n) l h = ap (λ k. k ++ (getD l n 0 ∷ [])) (tabulate-take n l (le-trans (le-suc n) h)) ∙ sym (take-suc l n 0 h)
+
+-- lists one after the other, by their members below n
+pub concat-same : {A B : Type 0} (f g : A → List B) (n : ℕ) (a b : ℕ → A) → ((i : ℕ) → i < n → f (a i) ≡ g (b i)) → concatMap f (tabulate n a) ≡ concatMap g (tabulate n b)
+unfolding concatMap
+concat-same {A} {B} f g n a b e =
+    mapped f (tabulate n a)
+    ∙ ap (concatMap (λ (l : List B). l)) (map-tabulate f n a ∙ tabulate-same n _ _ e ∙ sym (map-tabulate g n b))
+    ∙ sym (mapped g (tabulate n b))
+  where
+    mapped : (h : A → List B) (xs : List A) → concatMap h xs ≡ concatMap (λ (l : List B). l) (map h xs)
+    mapped h [] = refl
+    mapped h (x ∷ xs) = ap (λ (l : List B). h x ++ l) (mapped h xs)

@@ -41,7 +41,7 @@ pub record SameOpen (s t : State) : Type 0 where
 kept-same : (s t : State) → SameOpen s t → (a : ℕ) → kept s a ≡ kept t a
 kept-same s t r a = find-member (s .memo) a ∙ ap (member a) (r .memo) ∙ sym (find-member (t .memo) a)
 
-memo-length : (s t : State) → SameOpen s t → length (s .memo) ≡ length (t .memo)
+pub memo-length : (s t : State) → SameOpen s t → length (s .memo) ≡ length (t .memo)
 memo-length s t r = sym (length-map (s .memo) (λ (e : Entry). e .set)) ∙ ap length (r .memo) ∙ length-map (t .memo) (λ (e : Entry). e .set)
 
 -- ---- the operations

@@ -76,7 +76,7 @@ entry s p = record { set = s; plan = p }
 abbrev Rule : Input → Type 0
 Rule i = PlanRule i (search i .tried) (search i .plans) (search i .memo)
 
-three : Several 7
+pub three : Several 7
 unfolding bit
 three = record { one = 0; other = 1; distinct = λ e. omega arith; has-one = refl; has-other = refl }
 

@@ -1,5 +1,5 @@
 -- Document 01, 'The question sheet': its bytes, and what the sheet check asks of them.
-use Prim.Native.Nat.{ℕ, zero, suc, _+_, _*_}
+use Prim.Native.Nat.{ℕ, zero, suc, _+_, _*_, _<_}
 use mathlib.Core.Bool.{Bool, true, false, _&&_, _||_, not}
 use mathlib.Core.List.{List, [], _∷_, _++_}
 use lib.ListN.{length, getD}
@@ -9,6 +9,10 @@ use Rattle.definition.specs.Lists.{tabulate, concatMap}
 use Rattle.definition.specs.Question.{Range, fits, Item, Predicate, Question, crossProduct, leaf, openQuestion, leafCount, isWalk}
 
 -- ---- bytes
+
+-- each number of a list is a byte
+abbrev pub Bytes : List ℕ → Type 0
+Bytes bs = (i : ℕ) → getD bs i 0 < 256
 
 -- "Words are 32-bit, little-endian." The word at byte `at`
 unfoldable pub word : List ℕ → ℕ → ℕ
@@ -36,17 +40,22 @@ columnOffset bs = word bs 20
 abbrev pub range : List ℕ → ℕ → Range
 range bs at = record { first = word bs at; count = word bs (at + 4) }
 
--- "Item, 4 words." Item i
-abbrev pub itemAt : List ℕ → ℕ → Item
-itemAt bs i =
-    let at = itemOffset bs + 16 * i in
-    record { kind = word bs at; rows = word bs (at + 4); range = range bs (at + 8) }
+-- "Item, 4 words." Where item i starts, and where its rows stand
+abbrev pub itemStart : List ℕ → ℕ → ℕ
+itemStart bs i = itemOffset bs + 16 * i
 
--- "Predicate, 3 words." Predicate i
+abbrev pub rowsAt : List ℕ → ℕ → ℕ
+rowsAt bs i = itemStart bs i + 4
+
+abbrev pub itemAt : List ℕ → ℕ → Item
+itemAt bs i = record { kind = word bs (itemStart bs i); rows = word bs (rowsAt bs i); range = range bs (itemStart bs i + 8) }
+
+-- "Predicate, 3 words." Where the selectivity of predicate i stands
+abbrev pub selectivityAt : List ℕ → ℕ → ℕ
+selectivityAt bs i = predicateOffset bs + 12 * i
+
 abbrev pub predicateAt : List ℕ → ℕ → Predicate
-predicateAt bs i =
-    let at = predicateOffset bs + 12 * i in
-    record { selectivity = word bs at; range = range bs (at + 4) }
+predicateAt bs i = record { selectivity = word bs (selectivityAt bs i); range = range bs (selectivityAt bs i + 4) }
 
 -- "Column, 1 word." Column i
 abbrev pub columnAt : List ℕ → ℕ → ℕ

@@ -3,7 +3,7 @@ use mathlib.Core.Path.{_≡_, refl, sym, ap, _∙_}
 use mathlib.Core.Logic.{_⊎_, inl, inr}
 use mathlib.Core.Bool.{Bool, true, false, _&&_, _||_, not, true≢false, false≢true}
 use mathlib.Core.List.{List, [], _∷_, _++_}
-use Prim.Native.Nat.{ℕ, zero, suc, _+_, _*_, _-_, _≤_, _<_}
+use Prim.Native.Nat.{ℕ, zero, suc, _+_, _*_, _≤_, _<_}
 use native.Mathlib.Nat.{le-of-suc-le-suc, not-suc-le-zero, eq-zero-or-pos}
 use native.Mathlib.Numerals.{add-one}
 use native.Mathlib.Omega.{arith}
@@ -14,7 +14,7 @@ use borrow.Author.Tests.{ltb-false, leb-true, eqb-true, not-false, ne-eqb, eq-eq
 use Rattle.definition.specs.Answers.{truncated, overLimit, misplaced, unknownKind, reservedNotZero, rangePastTable, selectivityAboveOne, tooManyLeaves, brokenWalk}
 use Rattle.definition.specs.Lists.{concatMap}
 use Rattle.definition.specs.Question.{fits, Item, Predicate, Question, crossProduct, leaf, openQuestion, leafCount, isWalk, item, predicate}
-use Rattle.definition.specs.Sheet.{word, itemCount, itemOffset, predicateCount, predicateOffset, columnCount, columnOffset, itemAt, predicateAt, columnAt, questionOf, Check, check, firstFailing, headerChecks, reservedIsSet, tableLength, itemChecks, predicateChecks, walkChecks, questionAnswer, sheetAnswer}
+use Rattle.definition.specs.Sheet.{Bytes, word, itemCount, itemOffset, predicateCount, predicateOffset, columnCount, columnOffset, itemAt, predicateAt, columnAt, questionOf, Check, check, firstFailing, headerChecks, reservedIsSet, tableLength, itemChecks, predicateChecks, walkChecks, questionAnswer, sheetAnswer}
 use Rattle.definition.specs.Accepted.{Framed, Sound, AcceptedSheet}
 use Rattle.definition.specs.ListLaws.{length-tabulate, getD-tabulate}
 
@@ -45,7 +45,7 @@ unfolding questionOf
 column-is bs i h = getD-tabulate (columnCount bs) (columnAt bs) i 0 h
 
 -- a word of bytes has 32 bits
-pub word-bound : (bs : List ℕ) → ((i : ℕ) → getD bs i 0 < 256) → (at : ℕ) → word bs at < 4294967296
+pub word-bound : (bs : List ℕ) → Bytes bs → (at : ℕ) → word bs at < 4294967296
 unfolding word
 word-bound bs h at = omega (arith, h at, h (at + 1), h (at + 2), h (at + 3))
 
