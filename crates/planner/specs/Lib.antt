@@ -1,0 +1,4 @@
+pub mod Answers
+pub mod Lent
+pub mod RoomLaws
+pub mod RunLaws
