@@ -27,15 +27,19 @@ pub record Row : Type 0 where
 abbrev bytes : ℕ → List ℕ
 bytes w = (w % 256) ∷ (w / 256 % 256) ∷ (w / 65536 % 256) ∷ (w / 16777216) ∷ []
 
-unfoldable pub outcome : Row → Outcome
+-- what comes out for a sheet's words
+unfoldable pub outcomeOf : List ℕ → Rooms → ℕ → Outcome
 unfolding trailingZeros bit singleton lowest allBelow upToLowest doubled subsetsOf nonEmptySubsets singletonsBelow singletons tabulate concatMap member leafCount endsWithOne word firstFailing questionOf questionAnswer sheetAnswer typeOf assoc l-asscom r-asscom hasEdge connectingFrom beyond neighborhood anyPredicate selectivitiesOf oneClass met merge merges round rounds connected buildHypergraph buildFrom buildItem joinItem crossItem leafItem innerEdges otherEdges sidesFor widen sideSet holders holder edgeCount filtered candidateFrom enumerateCmpRec emitCsg enumerateCsgRec solveFrom find replace visit candidateKind candidate noted joined attempt leafPlans leafEntries start search leavesOf searched refusedWith call mul add div lt ofInt
-outcome r = call (concatMap bytes (r .words)) (r .rooms) (r .limit)
+outcomeOf words rooms limit = call (concatMap bytes words) rooms limit
+
+abbrev outcome : Row → Outcome
+outcome r = outcomeOf (r .words) (r .rooms) (r .limit)
 
 abbrev rooms : ℕ → ℕ → ℕ → Rooms
 rooms e p m = record { edges = e; plans = p; memo = m }
 
 -- the stores of the tried list program
-abbrev ample : Rooms
+abbrev pub ample : Rooms
 ample = rooms 256 1088 512
 
 abbrev edge : ℕ → ℕ → ℕ → ℕ → ℕ → Edge
@@ -44,7 +48,7 @@ edge l r p m t = record { left = l; right = r; predicate = p; source = m; type =
 abbrev entry : ℕ → ℕ → Entry
 entry s p = record { set = s; plan = p }
 
-abbrev pair : ℕ → ℕ → Pair
+abbrev pub pair : ℕ → ℕ → Pair
 pair a b = record { left = a; right = b }
 
 -- a candidate: set, left plan, right plan, lead edge, kind, rows, cost
@@ -67,7 +71,7 @@ row ws rs limit answer visits chosen es ps ms ts =
     }
 
 -- "Sheet A, 144 bytes, by words"
-abbrev sheetA : List ℕ
+abbrev pub sheetA : List ℕ
 sheetA = 5 ∷ 24 ∷ 2 ∷ 104 ∷ 4 ∷ 128 ∷ 9 ∷ 4 ∷ 0 ∷ 1 ∷ 9 ∷ 8 ∷ 1 ∷ 2 ∷ 0 ∷ 0 ∷ 0 ∷ 1 ∷ 9 ∷ 16 ∷ 3 ∷ 1 ∷ 0 ∷ 0 ∷ 1 ∷ 1 ∷ 32768 ∷ 0 ∷ 2 ∷ 16384 ∷ 2 ∷ 2 ∷ 1 ∷ 2 ∷ 3 ∷ 4 ∷ []
 
 -- "A with rows 4, 4, 4, shares 16384 and one column per leaf (each predicate on its two leaves)"
@@ -83,7 +87,7 @@ abbrev oneLeaf : List ℕ
 oneLeaf = 1 ∷ 24 ∷ 0 ∷ 40 ∷ 1 ∷ 40 ∷ 9 ∷ 4 ∷ 0 ∷ 1 ∷ 1 ∷ []
 
 -- "No items"
-abbrev noItems : List ℕ
+abbrev pub noItems : List ℕ
 noItems = 0 ∷ 24 ∷ 0 ∷ 24 ∷ 0 ∷ 24 ∷ []
 
 -- "Inner join with no predicates"
@@ -255,5 +259,5 @@ table = starredRows ++ furtherRows
 
 -- every row's outcome is the expected one
 pub starred : map outcome table ≡ map (λ (r : Row). r .expected) table
-unfolding outcome
+unfolding outcomeOf
 starred = refl

@@ -19,6 +19,7 @@ pub mod Search
 pub mod Call
 pub mod Kept
 pub mod PlanRule
+pub mod TriedList
 -- Computed examples.
 pub mod SheetSamples
 pub mod CandidateOrder
@@ -26,6 +27,7 @@ pub mod CandidateSamples
 pub mod CostSamples
 pub mod DocumentSamples
 pub mod PlanRuleSamples
+pub mod TriedListSamples
 -- Laws and theorems.
 pub mod ListLaws
 pub mod AllLaws
