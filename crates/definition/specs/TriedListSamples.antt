@@ -1,15 +1,24 @@
 -- Document 01, 'The tried list': its text for sheet A, from the sheet's words, with others, in one table with one computed test.
 use mathlib.Core.Path.{_≡_, refl}
-use Prim.Native.Nat.{ℕ, _-_, _^_}
-use mathlib.Core.List.{List, [], _∷_, _++_, map}
+use Prim.Native.Nat.{ℕ}
+use Prim.Native.Char.{code}
+use Prim.Native.String.{String}
+use Prim.Native.String as string
+use mathlib.Core.List.{List, [], _∷_, map}
+use Rattle.definition.specs.Lists.{concatMap}
 use Rattle.definition.specs.Search.{Pair}
-use Rattle.definition.specs.Call.{Outcome, defaultLimit}
+use Rattle.definition.specs.Call.{defaultLimit}
 use Rattle.definition.specs.TriedList.{decimalDigits, decimal, hexDigits, line, triedLines, triedList}
 use Rattle.definition.specs.DocumentSamples.{outcomeOf, ample, pair, sheetA, noItems}
 
 pub record Sample : Type 0 where
   pub printed : List ℕ
-  pub text : List ℕ
+  pub lines : List String
+
+-- the characters of a text, each one byte
+unfoldable pub bytes : String → List ℕ
+bytes string.[] = []
+bytes (string._∷_ c s) = code c ∷ bytes s
 
 unfoldable pub listed : ℕ → ℕ → List Pair → List ℕ
 unfolding decimalDigits decimal hexDigits line triedLines triedList
@@ -25,24 +34,24 @@ abbrev samples : List Sample
 samples =
     record {
       printed = ofSheet sheetA;
-      text =
-          (48 ∷ 32 ∷ 52 ∷ 32 ∷ 56 ∷ 10 ∷ [])
-          ++ (48 ∷ 32 ∷ 48 ∷ 48 ∷ 48 ∷ 48 ∷ 48 ∷ 48 ∷ 48 ∷ 48 ∷ 48 ∷ 48 ∷ 48 ∷ 48 ∷ 48 ∷ 48 ∷ 48 ∷ 50 ∷ 32 ∷ 48 ∷ 48 ∷ 48 ∷ 48 ∷ 48 ∷ 48 ∷ 48 ∷ 48 ∷ 48 ∷ 48 ∷ 48 ∷ 48 ∷ 48 ∷ 48 ∷ 48 ∷ 52 ∷ 10 ∷ [])
-          ++ (49 ∷ 32 ∷ 48 ∷ 48 ∷ 48 ∷ 48 ∷ 48 ∷ 48 ∷ 48 ∷ 48 ∷ 48 ∷ 48 ∷ 48 ∷ 48 ∷ 48 ∷ 48 ∷ 48 ∷ 49 ∷ 32 ∷ 48 ∷ 48 ∷ 48 ∷ 48 ∷ 48 ∷ 48 ∷ 48 ∷ 48 ∷ 48 ∷ 48 ∷ 48 ∷ 48 ∷ 48 ∷ 48 ∷ 48 ∷ 50 ∷ 10 ∷ [])
-          ++ (50 ∷ 32 ∷ 48 ∷ 48 ∷ 48 ∷ 48 ∷ 48 ∷ 48 ∷ 48 ∷ 48 ∷ 48 ∷ 48 ∷ 48 ∷ 48 ∷ 48 ∷ 48 ∷ 48 ∷ 49 ∷ 32 ∷ 48 ∷ 48 ∷ 48 ∷ 48 ∷ 48 ∷ 48 ∷ 48 ∷ 48 ∷ 48 ∷ 48 ∷ 48 ∷ 48 ∷ 48 ∷ 48 ∷ 48 ∷ 54 ∷ 10 ∷ [])
-          ++ (51 ∷ 32 ∷ 48 ∷ 48 ∷ 48 ∷ 48 ∷ 48 ∷ 48 ∷ 48 ∷ 48 ∷ 48 ∷ 48 ∷ 48 ∷ 48 ∷ 48 ∷ 48 ∷ 48 ∷ 51 ∷ 32 ∷ 48 ∷ 48 ∷ 48 ∷ 48 ∷ 48 ∷ 48 ∷ 48 ∷ 48 ∷ 48 ∷ 48 ∷ 48 ∷ 48 ∷ 48 ∷ 48 ∷ 48 ∷ 52 ∷ 10 ∷ []);
+      lines =
+          "0 4 8\n" ∷
+          "0 0000000000000002 0000000000000004\n" ∷
+          "1 0000000000000001 0000000000000002\n" ∷
+          "2 0000000000000001 0000000000000006\n" ∷
+          "3 0000000000000003 0000000000000004\n" ∷ [];
     }
-    ∷ record { printed = ofSheet noItems; text = 49 ∷ 53 ∷ 32 ∷ 48 ∷ 32 ∷ 48 ∷ 10 ∷ [] }
-    ∷ record { printed = ofSheet []; text = 49 ∷ 32 ∷ 48 ∷ 32 ∷ 48 ∷ 10 ∷ [] }
+    ∷ record { printed = ofSheet noItems; lines = "15 0 0\n" ∷ [] }
+    ∷ record { printed = ofSheet []; lines = "1 0 0\n" ∷ [] }
     ∷ record {
-      printed = listed 14 4294967295 (pair 81985529216486895 18364758544493064720 ∷ pair (2 ^ 64 - 1) 10 ∷ []);
-      text =
-          (49 ∷ 52 ∷ 32 ∷ 50 ∷ 32 ∷ 52 ∷ 50 ∷ 57 ∷ 52 ∷ 57 ∷ 54 ∷ 55 ∷ 50 ∷ 57 ∷ 53 ∷ 10 ∷ [])
-          ++ (48 ∷ 32 ∷ 48 ∷ 49 ∷ 50 ∷ 51 ∷ 52 ∷ 53 ∷ 54 ∷ 55 ∷ 56 ∷ 57 ∷ 97 ∷ 98 ∷ 99 ∷ 100 ∷ 101 ∷ 102 ∷ 32 ∷ 102 ∷ 101 ∷ 100 ∷ 99 ∷ 98 ∷ 97 ∷ 57 ∷ 56 ∷ 55 ∷ 54 ∷ 53 ∷ 52 ∷ 51 ∷ 50 ∷ 49 ∷ 48 ∷ 10 ∷ [])
-          ++ (49 ∷ 32 ∷ 102 ∷ 102 ∷ 102 ∷ 102 ∷ 102 ∷ 102 ∷ 102 ∷ 102 ∷ 102 ∷ 102 ∷ 102 ∷ 102 ∷ 102 ∷ 102 ∷ 102 ∷ 102 ∷ 32 ∷ 48 ∷ 48 ∷ 48 ∷ 48 ∷ 48 ∷ 48 ∷ 48 ∷ 48 ∷ 48 ∷ 48 ∷ 48 ∷ 48 ∷ 48 ∷ 48 ∷ 48 ∷ 97 ∷ 10 ∷ []);
+      printed = listed 14 4294967295 (pair 0x0123456789abcdef 0xfedcba9876543210 ∷ pair 0xffffffffffffffff 10 ∷ []);
+      lines =
+          "14 2 4294967295\n" ∷
+          "0 0123456789abcdef fedcba9876543210\n" ∷
+          "1 ffffffffffffffff 000000000000000a\n" ∷ [];
     }
     ∷ []
 
-pub texts : map (λ (s : Sample). s .printed) samples ≡ map (λ (s : Sample). s .text) samples
-unfolding ofSheet listed
+pub texts : map (λ (s : Sample). s .printed) samples ≡ map (λ (s : Sample). concatMap bytes (s .lines)) samples
+unfolding ofSheet listed bytes concatMap
 texts = refl
