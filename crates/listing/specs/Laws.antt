@@ -15,7 +15,7 @@ use Rattle.listing.specs.Text.{Puts}
 
 -- ---- bytes written
 
-sets-append : (xs ys l : List ℕ) (i : ℕ) → sets l i (xs ++ ys) ≡ sets (sets l i xs) (i + length xs) ys
+pub sets-append : (xs ys l : List ℕ) (i : ℕ) → sets l i (xs ++ ys) ≡ sets (sets l i xs) (i + length xs) ys
 sets-append [] ys l i = ap (λ (k : ℕ). sets l k ys) (sym (add-zero i))
 sets-append (x ∷ xs) ys l i =
     sets-append xs ys (set l i x) (suc i) ∙ ap (λ (k : ℕ). sets (sets (set l i x) (suc i) xs) k ys) (suc-add i (length xs) ∙ sym (add-suc i (length xs)))

@@ -28,13 +28,13 @@ answerFor text out = elim (ltb (length out) (length text)) [ true ↦ NoRoom | f
 unfoldable pub writtenIn : List ℕ → List ℕ → List ℕ
 writtenIn text out = elim (ltb (length out) (length text)) [ true ↦ out | false ↦ text ++ drop (length text) out ]
 
--- the lengths of the lines of the first n candidates, and of the whole text
+-- the lengths of the first line and of the lines of n candidates
+abbrev pub headLength : ℕ → ℕ → ℕ → ℕ
+headLength answer n visits = length (decimal answer) + length (decimal n) + length (decimal visits) + 3
+
 unfoldable pub linesLength : ℕ → ℕ
 linesLength zero = 0
 linesLength (suc n) = linesLength n + (length (decimal n) + 35)
-
-abbrev pub textLength : ℕ → ℕ → ℕ → ℕ
-textLength answer visits n = length (decimal answer) + length (decimal n) + length (decimal visits) + 3 + linesLength n
 
 -- the sets of the plans that the candidates' fields name on one side: n leaves, m plans
 abbrev pub sideSets : List ℕ → List ℕ → ℕ → ℕ → List ℕ

@@ -5,7 +5,7 @@ ghost use Prim.Native.Nat.{ℕ, _+_, _^_, _≤_, _<_};
 ghost use lib.ListN.{length, getD, set};
 ghost use lib.Seq.{sets};
 ghost use Rattle.definition.specs.TriedList.{decimal, hexDigit, hexDigits, hex16, line, triedList};
-ghost use Rattle.listing.specs.Text.{Puts, pairsOf, answerFor, writtenIn, textLength, sideSets};
+ghost use Rattle.listing.specs.Text.{Puts, pairsOf, answerFor, writtenIn, headLength, linesLength, sideSets};
 
 // The text's length, or that the lent list is too short for it.
 pub enum Written {
@@ -120,7 +120,7 @@ fn decimal_length(n: u32) -> usize
 }
 
 fn text_length(answer: u32, trials: u32, visits: u32) -> usize
-    ensures { λ r. ⌜ r ≡ textLength answer visits trials ⌝ }
+    ensures { λ r. ⌜ r ≡ headLength answer trials visits + linesLength trials ⌝ }
 {
     let mut n = decimal_length(answer) + decimal_length(trials) + decimal_length(visits) + 3;
     let mut i: u32 = 0;

@@ -1,3 +1,11 @@
+use borrow.Author.Needs.{needs}
+use native.Mathlib.Omega.{arith}
+use mathlib.Core.Path.{_≡_, ap, _∙_}
+use Prim.Native.Nat.{_-_, _≤_}
+use lib.ListN.{length}
+use lib.Seq.{sets, length-sets}
+use Rattle.listing.specs.Text.{sideSets}
+use Rattle.listing.specs.TextLaws.{sides-none, sides-more}
 use Rattle.listing.proofs.side_sets.Statement.{statement}
 use Rattle.listing.proofs.side_sets.Tie as tie
 use Rattle.listing.proofs.side_sets.Reads as reads
@@ -7,50 +15,40 @@ use Rattle.listing.proofs.at64.Reads as at64-reads
 use Rattle.listing.proofs.put64.Reads as put64-reads
 
 abbrev Inv-loop : tie.InvT-loop
-Inv-loop pset pside leaves plans side₀ k₀ side k = ?
+Inv-loop pset pside leaves plans side₀ k₀ side k = (leaves ≤ k) × (k - leaves ≤ plans - leaves) × (side ≡ sets side₀ 0 (sideSets pset pside leaves k))
 
 abbrev μ-loop : tie.MeasureT-loop
-μ-loop pset pside leaves plans side₀ k₀ side k = ?
+μ-loop pset pside leaves plans side₀ k₀ side k = plans - k
 
--- src/lib.rt:139:5
 loop-holds : tie.Need-loop-holds Inv-loop μ-loop
-loop-holds c = ?
+loop-holds c = (omega arith, omega arith, sides-none (c .before .before .before .args .pset .now) (c .before .before .before .args .pside .now) (c .before .before .before .args .side .now) (c .before .before .before .args .leaves))
 
--- src/lib.rt:140:21
 sub-put64 : tie.Need-sub-put64 Inv-loop μ-loop
-sub-put64 c = ?
+sub-put64 c = search needs
 
--- src/lib.rt:140:44
 at32-requires : tie.Need-at32-requires Inv-loop μ-loop
-at32-requires c κs = ?
+at32-requires c κs = search needs
 
--- src/lib.rt:140:33
 at64-requires : tie.Need-at64-requires Inv-loop μ-loop
-at64-requires c κs = ?
+at64-requires c κs = search needs
 
--- src/lib.rt:140:9
 put64-requires : tie.Need-put64-requires Inv-loop μ-loop
-put64-requires c κs = ?
+put64-requires c κs = search needs
 
--- src/lib.rt:141:9
 add-k : tie.Need-add-k Inv-loop μ-loop
-add-k c = ?
+add-k c = search needs
 
--- src/lib.rt:139:5
 loop-less : tie.Need-loop-less Inv-loop μ-loop
-loop-less c = ?
+loop-less c = search needs
 
--- src/lib.rt:139:5
 loop-again : tie.Need-loop-again Inv-loop μ-loop
-loop-again c = ?
+loop-again c = (omega arith, omega arith, c .before .before .put64 .ensures ∙ sides-more (c .before .before .before .before .before .before .before .before .before .before .before .args .pset .now) (c .before .before .before .before .before .before .before .before .before .before .before .args .pside .now) (c .before .before .before .before .before .before .before .before .before .before .before .args .side .now) (c .before .before .before .before .before .before .before .before .before .before .before .args .leaves) (c .before .before .before .before .before .before .before .loop .inv .0) (c .before .before .before .before .before .before .before .loop .inv .2) (c .before .before .before .before .at32 .ensures) (c .before .before .before .at64 .ensures))
 
--- src/lib.rt:135:1
 same-length : tie.Need-same-length Inv-loop μ-loop
-same-length c = ?
+same-length c = ap length (c .before .loop .inv .2) ∙ simp length-sets
 
--- src/lib.rt:135:1
 returns : tie.Need-returns Inv-loop μ-loop
-returns c = ?
+returns c = let e : c .before .loop .k - c .before .before .before .before .before .args .leaves ≡ c .before .before .before .before .before .args .plans - c .before .before .before .before .before .args .leaves = omega arith in rw e at (c .before .loop .inv .2)
 
 pub side-sets-spec : {M : Type 1} → statement M
 side-sets-spec =

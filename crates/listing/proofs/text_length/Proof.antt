@@ -1,3 +1,10 @@
+use borrow.Author.Needs.{needs}
+use native.Mathlib.Omega.{arith}
+use mathlib.Core.Path.{_≡_, ap}
+use Prim.Native.Nat.{_+_, _-_, _≤_}
+use Rattle.listing.specs.Text.{headLength, linesLength}
+use Rattle.listing.specs.Laws.{decimal-ten}
+use Rattle.listing.specs.TextLaws.{head-bound, lines-bound, lines-longer}
 use Rattle.listing.proofs.text_length.Statement.{statement}
 use Rattle.listing.proofs.text_length.Tie as tie
 use Rattle.listing.proofs.text_length.Reads as reads
@@ -5,66 +12,53 @@ use Rattle.listing.proofs.text_length.Lts as lts
 use Rattle.listing.proofs.decimal_length.Reads as decimal-length-reads
 
 abbrev Inv-loop : tie.InvT-loop
-Inv-loop answer trials visits n₀ i₀ n i = ?
+Inv-loop answer trials visits n₀ i₀ n i = (i ≤ trials) × (n ≡ headLength answer trials visits + linesLength i)
 
 abbrev μ-loop : tie.MeasureT-loop
-μ-loop answer trials visits n₀ i₀ n i = ?
+μ-loop answer trials visits n₀ i₀ n i = trials - i
 
--- src/lib.rt:125:17
 decimal-length-requires : tie.Need-decimal-length-requires Inv-loop μ-loop
-decimal-length-requires c κs = ?
+decimal-length-requires c κs = search needs
 
--- src/lib.rt:125:42
 decimal-length-requires-2 : tie.Need-decimal-length-requires-2 Inv-loop μ-loop
-decimal-length-requires-2 c κs = ?
+decimal-length-requires-2 c κs = search needs
 
--- src/lib.rt:125:17
 add-n : tie.Need-add-n Inv-loop μ-loop
-add-n c = ?
+add-n c = omega (arith, head-bound (c .before .before .args .answer) (c .before .before .args .trials) (c .before .before .args .visits) (omega arith) (omega arith) (omega arith))
 
--- src/lib.rt:125:67
 decimal-length-requires-3 : tie.Need-decimal-length-requires-3 Inv-loop μ-loop
-decimal-length-requires-3 c κs = ?
+decimal-length-requires-3 c κs = search needs
 
--- src/lib.rt:125:17
 add-n-2 : tie.Need-add-n-2 Inv-loop μ-loop
-add-n-2 c = ?
+add-n-2 c = omega (arith, head-bound (c .before .before .before .args .answer) (c .before .before .before .args .trials) (c .before .before .before .args .visits) (omega arith) (omega arith) (omega arith))
 
--- src/lib.rt:125:17
 add-n-3 : tie.Need-add-n-3 Inv-loop μ-loop
-add-n-3 c = ?
+add-n-3 c = omega (arith, head-bound (c .before .before .before .args .answer) (c .before .before .before .args .trials) (c .before .before .before .args .visits) (omega arith) (omega arith) (omega arith))
 
--- src/lib.rt:127:5
 loop-holds : tie.Need-loop-holds Inv-loop μ-loop
-loop-holds c = ?
+unfolding linesLength
+loop-holds c = (omega arith, omega arith)
 
--- src/lib.rt:128:14
 decimal-length-requires-4 : tie.Need-decimal-length-requires-4 Inv-loop μ-loop
-decimal-length-requires-4 c κs = ?
+decimal-length-requires-4 c κs = search needs
 
--- src/lib.rt:128:14
 add-n-4 : tie.Need-add-n-4 Inv-loop μ-loop
-add-n-4 c = ?
+add-n-4 c = omega (arith, decimal-ten (c .before .before .loop .i) (omega arith))
 
--- src/lib.rt:128:9
 add-n-5 : tie.Need-add-n-5 Inv-loop μ-loop
-add-n-5 c = ?
+add-n-5 c = omega (arith, decimal-ten (c .before .before .loop .i) (omega arith), head-bound (c .before .before .before .before .before .before .args .answer) (c .before .before .before .before .before .before .args .trials) (c .before .before .before .before .before .before .args .visits) (omega arith) (omega arith) (omega arith), lines-bound (c .before .before .loop .i) (omega arith))
 
--- src/lib.rt:129:9
 add-i : tie.Need-add-i Inv-loop μ-loop
-add-i c = ?
+add-i c = omega arith
 
--- src/lib.rt:127:5
 loop-less : tie.Need-loop-less Inv-loop μ-loop
-loop-less c = ?
+loop-less c = omega arith
 
--- src/lib.rt:127:5
 loop-again : tie.Need-loop-again Inv-loop μ-loop
-loop-again c = ?
+loop-again c = (omega arith, omega (arith, lines-longer (c .before .before .loop .i)))
 
--- src/lib.rt:122:1
 returns : tie.Need-returns Inv-loop μ-loop
-returns c = ?
+returns c = let e : c .before .loop .i ≡ c .before .before .before .before .before .args .trials = omega arith in omega (arith, ap linesLength e)
 
 pub text-length-spec : {M : Type 1} → statement M
 text-length-spec =
