@@ -53,16 +53,25 @@ module _ (left right : List ℕ) where
   abbrev lineOf : ℕ → List ℕ
   lineOf n = line (decimal n) (hex16 (getD left n 0)) (hex16 (getD right n 0))
 
-  pub lines-none : triedLines 0 (pairsOf left right 0) ≡ []
+  lines-none : triedLines 0 (pairsOf left right 0) ≡ []
   unfolding triedLines tabulate
   lines-none = refl
 
-  pub lines-more : (n : ℕ) → triedLines 0 (pairsOf left right (n + 1)) ≡ triedLines 0 (pairsOf left right n) ++ lineOf n
+  lines-more : (n : ℕ) → triedLines 0 (pairsOf left right (n + 1)) ≡ triedLines 0 (pairsOf left right n) ++ lineOf n
   unfolding triedLines
   lines-more n =
       ap (triedLines 0) (tabulate-more n pair pair (λ i h. refl)) ∙ lines-append 0 (tabulate n pair) (pair n ∷ [])
       ∙ ap (λ (k : ℕ). triedLines 0 (tabulate n pair) ++ triedLines k (pair n ∷ [])) (zero-add (length (tabulate n pair)) ∙ length-tabulate n pair)
       ∙ ap (λ (l : List ℕ). triedLines 0 (tabulate n pair) ++ l) (append-nil (lineOf n))
+
+  -- the lines of one candidate more, written behind the others
+  pub puts-lines-none : (l : List ℕ) (at : ℕ) → Puts (triedLines 0 (pairsOf left right 0)) l l at at
+  puts-lines-none l at = rw lines-none (puts-none l at)
+
+  pub puts-lines-more : (n : ℕ) {x y at m end : ℕ} {a b c : List ℕ} → x ≡ getD left n 0 → y ≡ getD right n 0
+      → Puts (triedLines 0 (pairsOf left right n)) a b at m → Puts (line (decimal n) (hex16 x) (hex16 y)) b c m end
+      → Puts (triedLines 0 (pairsOf left right (n + 1))) a c at end
+  puts-lines-more n f g p q = rw (lines-more n, ← f, ← g) (puts-then p q)
 
   pub lines-length : (n : ℕ) → length (triedLines 0 (pairsOf left right n)) ≡ linesLength n
   unfolding linesLength

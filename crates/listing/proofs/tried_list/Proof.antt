@@ -1,3 +1,12 @@
+use borrow.Author.Needs.{needs}
+use native.Mathlib.Omega.{arith}
+use mathlib.Core.Path.{_≡_, ap, _∙_}
+use Prim.Native.Nat.{_-_, _≤_}
+use lib.ListN.{length}
+use lib.Seq.{length-sets}
+use Rattle.definition.specs.TriedList.{decimal, triedLines}
+use Rattle.listing.specs.Text.{Puts, pairsOf}
+use Rattle.listing.specs.TextLaws.{line-length, head-bound, lines-bound, lines-length, puts-lines-none, puts-lines-more, text-length, puts-text, no-room, room}
 use Rattle.listing.proofs.tried_list.Statement.{statement}
 use Rattle.listing.proofs.tried_list.Tie as tie
 use Rattle.listing.proofs.tried_list.Reads as reads
@@ -8,58 +17,46 @@ use Rattle.listing.proofs.put_line.Reads as put-line-reads
 use Rattle.listing.proofs.text_length.Reads as text-length-reads
 
 abbrev Inv-loop : tie.InvT-loop
-Inv-loop answer visits left right trials out₀ at₀ i₀ out at i = ?
+Inv-loop answer visits left right trials out₀ at₀ i₀ out at i = (i ≤ trials) × Puts (triedLines 0 (pairsOf left right i)) out₀ out at₀ at
 
 abbrev μ-loop : tie.MeasureT-loop
-μ-loop answer visits left right trials out₀ at₀ i₀ out at i = ?
+μ-loop answer visits left right trials out₀ at₀ i₀ out at i = trials - i
 
--- src/lib.rt:157:20
 text-length-requires : tie.Need-text-length-requires Inv-loop μ-loop
-text-length-requires c κs = ?
+text-length-requires c κs = search needs
 
--- src/lib.rt:158:9
 returns : tie.Need-returns Inv-loop μ-loop
-returns c = ?
+returns c = let a = c .before .before .before .before .before .args in no-room _ (a .out .now) (omega (arith, text-length (a .left .now) (a .right .now) (a .answer) (a .visits) (a .trials)))
 
--- src/lib.rt:160:9
 put-header-requires : tie.Need-put-header-requires Inv-loop μ-loop
-put-header-requires c κs = ?
+put-header-requires c κs = search needs
 
--- src/lib.rt:162:5
 loop-holds : tie.Need-loop-holds Inv-loop μ-loop
-loop-holds c = ?
+loop-holds c = (omega arith, puts-lines-none (c .before .before .before .before .before .before .before .before .before .args .left .now) (c .before .before .before .before .before .before .before .before .before .args .right .now) _ _)
 
--- src/lib.rt:163:35
 at64-requires : tie.Need-at64-requires Inv-loop μ-loop
-at64-requires c κs = ?
+at64-requires c κs = search needs
 
--- src/lib.rt:163:50
 at64-requires-2 : tie.Need-at64-requires-2 Inv-loop μ-loop
-at64-requires-2 c κs = ?
+at64-requires-2 c κs = search needs
 
--- src/lib.rt:163:9
 put-line-requires : tie.Need-put-line-requires Inv-loop μ-loop
-put-line-requires c κs = ?
+put-line-requires c κs = let a = c .before .before .before .before .before .before .before .before .before .before .before .before .before .before .args in let i = c .before .before .before .before .loop .i in omega (arith, lines-length (a .left .now) (a .right .now) i, lines-bound i (omega arith), line-length (decimal (a .answer)) (decimal (a .trials)) (decimal (a .visits)), head-bound (a .answer) (a .trials) (a .visits) (omega arith) (omega arith) (omega arith))
 
--- src/lib.rt:164:9
 add-i : tie.Need-add-i Inv-loop μ-loop
-add-i c = ?
+add-i c = omega arith
 
--- src/lib.rt:162:5
 loop-less : tie.Need-loop-less Inv-loop μ-loop
-loop-less c = ?
+loop-less c = omega arith
 
--- src/lib.rt:162:5
 loop-again : tie.Need-loop-again Inv-loop μ-loop
-loop-again c = ?
+loop-again c = (omega arith, puts-lines-more (c .before .before .before .before .before .before .before .before .before .before .before .before .before .before .before .before .before .args .left .now) (c .before .before .before .before .before .before .before .before .before .before .before .before .before .before .before .before .before .args .right .now) _ (c .before .before .before .before .at64 .ensures) (c .before .before .before .at642 .ensures) (c .before .before .before .before .before .before .before .loop .inv .1) (c .before .before .put-line .ensures))
 
--- src/lib.rt:146:1
 same-length : tie.Need-same-length Inv-loop μ-loop
-same-length c = ?
+same-length c = ap length (c .before .loop .inv .1 .list) ∙ simp length-sets (c .before .before .before .before .put-header .kept .0)
 
--- src/lib.rt:146:1
 returns-2 : tie.Need-returns-2 Inv-loop μ-loop
-returns-2 c = ?
+returns-2 c = let a = c .before .before .before .before .before .before .before .before .before .before .before .args in let e : c .before .loop .i ≡ a .trials = omega arith in room _ (a .out .now) (omega (arith, text-length (a .left .now) (a .right .now) (a .answer) (a .visits) (a .trials))) (puts-text (a .left .now) (a .right .now) (a .answer) (a .visits) (a .trials) (c .before .before .before .before .put-header .ensures) (rw e at (c .before .loop .inv .1)))
 
 pub tried-list-spec : {M : Type 1} → statement M
 tried-list-spec =
