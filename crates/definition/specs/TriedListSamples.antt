@@ -29,7 +29,8 @@ unfoldable pub ofSheet : List ℕ → List ℕ
 unfolding outcomeOf listed
 ofSheet ws = let o = outcomeOf ws ample defaultLimit in listed (o .answer) (o .visits) (o .tried)
 
--- document 01's text for sheet A; no items; a sheet that is torn; the largest numbers, and every hexadecimal digit
+-- document 01's text for sheet A; no items; a sheet that is torn; one digit and two; the largest numbers,
+-- and every hexadecimal digit
 abbrev samples : List Sample
 samples =
     record {
@@ -43,6 +44,7 @@ samples =
     }
     ∷ record { printed = ofSheet noItems; lines = "15 0 0\n" ∷ [] }
     ∷ record { printed = ofSheet []; lines = "1 0 0\n" ∷ [] }
+    ∷ record { printed = listed 9 10 []; lines = "9 0 10\n" ∷ [] }
     ∷ record {
       printed = listed 14 4294967295 (pair 0x0123456789abcdef 0xfedcba9876543210 ∷ pair 0xffffffffffffffff 10 ∷ []);
       lines =

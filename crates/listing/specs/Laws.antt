@@ -1,14 +1,12 @@
 -- Laws of the text's definitions. Assumes nothing.
 use mathlib.Core.Path.{_≡_, refl, sym, ap, ap₂, _∙_}
-use mathlib.Core.Bool.{true, false}
 use mathlib.Core.List.{List, [], _∷_, _++_}
 use Prim.Native.Nat.{ℕ, zero, suc, _+_, _-_, _/_, _%_, _^_, _≤_, _<_}
 use native.Mathlib.Nat.{add-zero, add-suc, suc-add, lt-of-not-le, pow-suc}
 use native.Mathlib.Decide.{decLe}
 use native.Mathlib.Omega.{arith}
-use lib.ListN.{length, set, length-append, length-set}
-use lib.Seq.{sets, set-out}
-use lib.Dec.{ltb}
+use lib.ListN.{length, set, length-append}
+use lib.Seq.{sets}
 use borrow.Author.Tests.{lt-ltb, le-ltb}
 use Rattle.definition.specs.TriedList.{space, newline, decimalDigits, decimal, hexDigit, hexDigits, line}
 use Rattle.listing.specs.Text.{Puts}
@@ -110,9 +108,24 @@ unfolding hexDigits
 hex-then zero s z h p q = absurd (z refl)
 hex-then (suc k) s z h p q = let e : suc k - 1 ≡ k = omega arith in rw (h, e) at (puts-then p q)
 
+-- where they end
+pub decimal-end : (n : ℕ) {a b : List ℕ} {at m : ℕ} → Puts (decimal n) a b at m → n < 2 ^ 32 → m ≤ at + 10
+decimal-end n p h = omega (arith, p .place, decimal-ten n h)
+
+pub hex-end : (k s : ℕ) {a b : List ℕ} {at m : ℕ} → Puts (hexDigits k s) a b at m → m ≡ at + k
+hex-end k s p = omega (arith, p .place, length-hex k s)
+
 -- ---- lines written
 
 pub puts-line : {a b c d e f g : List ℕ} {x y z : List ℕ} {at i j k l m n : ℕ} → Puts x a b at i → Puts (space ∷ []) b c i j → Puts y c d j k
     → Puts (space ∷ []) d e k l → Puts z e f l m → Puts (newline ∷ []) f g m n → Puts (line x y z) a g at n
 unfolding line
 puts-line p q r s t u = puts-then (puts-then (puts-then (puts-then (puts-then p q) r) s) t) u
+
+pub line-length : (a b c : List ℕ) → length (line a b c) ≡ length a + length b + length c + 3
+unfolding line
+line-length a b c = simp length-append (omega arith)
+
+pub head-end : (x y z : ℕ) {a b : List ℕ} {at m : ℕ} → Puts (line (decimal x) (decimal y) (decimal z)) a b at m → x < 2 ^ 32 → y < 2 ^ 32 → z < 2 ^ 32
+    → m ≤ at + 33
+head-end x y z p h k l = omega (arith, p .place, line-length (decimal x) (decimal y) (decimal z), decimal-ten x h, decimal-ten y k, decimal-ten z l)

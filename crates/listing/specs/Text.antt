@@ -8,7 +8,7 @@ use lib.Seq.{sets}
 use lib.Dec.{ltb}
 use Rattle.definition.specs.Lists.{tabulate}
 use Rattle.definition.specs.Search.{Pair}
-use Rattle.definition.specs.TriedList.{decimal, triedList}
+use Rattle.definition.specs.TriedList.{decimal}
 use Rattle.listing.specs.declared.Written.{Written}
 use Rattle.listing.specs.declared.Written.the-variants.{Bytes, NoRoom}
 

@@ -1,6 +1,5 @@
 -- Laws of the whole text and of the sets read back. Assumes nothing.
 use mathlib.Core.Path.{_≡_, refl, sym, ap, ap₂, _∙_}
-use mathlib.Core.Bool.{true, false}
 use mathlib.Core.List.{List, [], _∷_, _++_, append-assoc, append-nil}
 use Prim.Native.Nat.{ℕ, zero, suc, _+_, _*_, _-_, _^_, _≤_, _<_}
 use native.Mathlib.Nat.{add-zero, zero-add, add-suc, suc-add, sub-self}
@@ -8,7 +7,6 @@ use native.Mathlib.Numerals.{add-one}
 use native.Mathlib.Omega.{arith}
 use lib.ListN.{length, getD, set, drop, length-append}
 use lib.Seq.{sets, sets-eq}
-use lib.Dec.{ltb}
 use borrow.Author.Tests.{lt-ltb, le-ltb}
 use Rattle.definition.specs.Lists.{tabulate}
 use Rattle.definition.specs.ListLaws.{length-tabulate, tabulate-more}
@@ -16,13 +14,9 @@ use Rattle.definition.specs.Search.{Pair}
 use Rattle.definition.specs.TriedList.{decimal, hex16, line, triedLines, triedList}
 use Rattle.listing.specs.declared.Written.the-variants.{Bytes, NoRoom}
 use Rattle.listing.specs.Text.{Puts, pairsOf, answerFor, writtenIn, headLength, linesLength, sideSets}
-use Rattle.listing.specs.Laws.{sets-append, puts-none, puts-then, decimal-ten, length-hex}
+use Rattle.listing.specs.Laws.{line-length, sets-append, puts-none, puts-then, decimal-ten, length-hex}
 
 -- ---- lengths
-
-pub line-length : (a b c : List ℕ) → length (line a b c) ≡ length a + length b + length c + 3
-unfolding line
-line-length a b c = simp length-append (omega arith)
 
 pub head-bound : (answer n visits : ℕ) → answer < 2 ^ 32 → n < 2 ^ 32 → visits < 2 ^ 32 → headLength answer n visits ≤ 33
 head-bound answer n visits h k l = omega (arith, decimal-ten answer h, decimal-ten n k, decimal-ten visits l)
@@ -110,9 +104,10 @@ module _ (text out : List ℕ) where
   pub room : {end : ℕ} {after : List ℕ} → length text ≤ length out → Puts text out after 0 end → (Bytes end ≡ answerFor text out) × (after ≡ writtenIn text out)
   unfolding answerFor writtenIn
   room h p =
-      let t = le-ltb (length out) (length text) h in
-      (rw (answerFor, t) (ap Bytes (p .place ∙ zero-add (length text))),
-      rw (writtenIn, t) (p .list ∙ sets-eq text out 0 (rw zero-add h) ∙ ap (λ (k : ℕ). text ++ drop k out) (zero-add (length text))))
+      let t = le-ltb (length out) (length text) h in (
+        rw (answerFor, t) (ap Bytes (p .place ∙ zero-add (length text))),
+        rw (writtenIn, t) (p .list ∙ sets-eq text out 0 (rw zero-add h) ∙ ap (λ (k : ℕ). text ++ drop k out) (zero-add (length text))),
+      )
 
 -- ---- the sets read back
 

@@ -1,7 +1,7 @@
 // The tried list as text, made from the open part of a result alone: answer number, visits, and the candidates' left and right sets.
 ghost use mathlib.Core.Path.{_≡_};
-ghost use mathlib.Core.List.{List, [], _∷_};
-ghost use Prim.Native.Nat.{ℕ, _+_, _^_, _≤_, _<_};
+ghost use mathlib.Core.List.{[], _∷_};
+ghost use Prim.Native.Nat.{_+_, _^_, _≤_, _<_};
 ghost use lib.ListN.{length, getD, set};
 ghost use lib.Seq.{sets};
 ghost use Rattle.definition.specs.TriedList.{decimal, hexDigit, hexDigits, hex16, line, triedList};
@@ -151,8 +151,8 @@ pub fn tried_list(
     trials: u32,
     out: &mut [u8],
 ) -> Written
-    ensures answer { λ r. ⌜ r ≡ answerFor (triedList answer visits (pairsOf (now (left .entry)) (now (right .entry)) trials)) (now (out .entry)) ⌝ }
-    ensures list { λ r. ⌜ now (out .exit) ≡ writtenIn (triedList answer visits (pairsOf (now (left .entry)) (now (right .entry)) trials)) (now (out .entry)) ⌝ }
+    ensures result { λ r. ⌜ r ≡ answerFor (triedList answer visits (pairsOf (now (left .entry)) (now (right .entry)) trials)) (now (out .entry)) ⌝ }
+    ensures text { λ r. ⌜ now (out .exit) ≡ writtenIn (triedList answer visits (pairsOf (now (left .entry)) (now (right .entry)) trials)) (now (out .entry)) ⌝ }
 {
     if out.len() < text_length(answer, trials, visits) {
         return Written::NoRoom;

@@ -1,8 +1,8 @@
+-- `listing::put_hex` meets its contract. Assumes nothing.
 use borrow.Author.Needs.{needs}
 use native.Mathlib.Omega.{arith}
-use mathlib.Core.Path.{_∙_}
-use Prim.Native.Nat.{_-_, _/_}
-use Rattle.listing.specs.Laws.{hex-none, hex-then, length-hex}
+use Prim.Native.Nat.{_-_}
+use Rattle.listing.specs.Laws.{hex-none, hex-then, hex-end}
 use Prim.Native.Nat.{ℕ, _<_}
 use borrow.Fn.Kinds.{In}
 use borrow.Fn.PlainCycle.{Measures, is, falls, and}
@@ -81,7 +81,7 @@ put-hex-put-byte-requires : (t : ℕ) → put-hex-lts.Need-put-byte-requires (
   put-byte-reads.Asked,
   put-byte-reads.Learnt,
 ) (put-hex-at t) put-hex.Post
-put-hex-put-byte-requires t c κs = omega (arith, c .before .before .before .before .put-hex .ensures .place, length-hex (c .before .before .before .before .before .before .before .before .args .k - 1) (c .before .before .before .before .before .before .before .before .args .s / 16))
+put-hex-put-byte-requires t c κs = omega (arith, hex-end _ _ (c .before .before .before .before .put-hex .ensures))
 
 put-hex-same-length : (t : ℕ) → put-hex-lts.Need-same-length (
   put-hex-below t,

@@ -1,10 +1,9 @@
+-- `listing::at64` meets its contract. Assumes nothing.
 use mathlib.Core.Path.{sym}
 use lib.ListN.{List·getD-eq-default}
 use borrow.Author.Needs.{needs}
 use Rattle.listing.proofs.at64.Statement.{statement}
 use Rattle.listing.proofs.at64.Tie as tie
-use Rattle.listing.proofs.at64.Reads as reads
-use Rattle.listing.proofs.at64.Lts as lts
 
 -- src/lib.rt:25:22
 mul-result : tie.Need-mul-result

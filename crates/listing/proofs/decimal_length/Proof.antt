@@ -1,3 +1,4 @@
+-- `listing::decimal_length` meets its contract. Assumes nothing.
 use mathlib.Core.Path.{_≡_, refl, ap}
 use Prim.Native.Nat.{_+_}
 use native.Mathlib.Omega.{arith}
@@ -6,8 +7,6 @@ use Rattle.definition.specs.TriedList.{decimal}
 use Rattle.listing.specs.Laws.{decimal-ten, decimal-small, decimal-longer}
 use Rattle.listing.proofs.decimal_length.Statement.{statement}
 use Rattle.listing.proofs.decimal_length.Tie as tie
-use Rattle.listing.proofs.decimal_length.Reads as reads
-use Rattle.listing.proofs.decimal_length.Lts as lts
 
 abbrev Inv-loop : tie.InvT-loop
 Inv-loop n k₀ rest₀ k rest = k + length (decimal rest) ≡ 1 + length (decimal n)

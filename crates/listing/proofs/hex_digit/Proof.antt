@@ -1,9 +1,8 @@
+-- `listing::hex_digit` meets its contract. Assumes nothing.
 use Rattle.listing.specs.Laws.{hex-low, hex-high}
 use borrow.Author.Needs.{needs}
 use Rattle.listing.proofs.hex_digit.Statement.{statement}
 use Rattle.listing.proofs.hex_digit.Tie as tie
-use Rattle.listing.proofs.hex_digit.Reads as reads
-use Rattle.listing.proofs.hex_digit.Lts as lts
 
 -- src/lib.rt:54:17
 add-result : tie.Need-add-result

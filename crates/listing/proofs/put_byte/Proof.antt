@@ -1,3 +1,4 @@
+-- `listing::put_byte` meets its contract. Assumes nothing.
 use mathlib.Core.Path.{sym, ap, _∙_}
 use lib.ListN.{length, length-set}
 use lib.Seq.{set-out}
@@ -6,8 +7,6 @@ use mathlib.Core.Logic.{⊎-elim}
 use borrow.Author.Needs.{needs}
 use Rattle.listing.proofs.put_byte.Statement.{statement}
 use Rattle.listing.proofs.put_byte.Tie as tie
-use Rattle.listing.proofs.put_byte.Reads as reads
-use Rattle.listing.proofs.put_byte.Lts as lts
 
 -- src/lib.rt:34:9
 slice-write-out : tie.Need-slice-write-out

@@ -1,3 +1,4 @@
+-- `listing::side_sets` meets its contract. Assumes nothing.
 use borrow.Author.Needs.{needs}
 use native.Mathlib.Omega.{arith}
 use mathlib.Core.Path.{_≡_, ap, _∙_}
@@ -8,11 +9,6 @@ use Rattle.listing.specs.Text.{sideSets}
 use Rattle.listing.specs.TextLaws.{sides-none, sides-more}
 use Rattle.listing.proofs.side_sets.Statement.{statement}
 use Rattle.listing.proofs.side_sets.Tie as tie
-use Rattle.listing.proofs.side_sets.Reads as reads
-use Rattle.listing.proofs.side_sets.Lts as lts
-use Rattle.listing.proofs.at32.Reads as at32-reads
-use Rattle.listing.proofs.at64.Reads as at64-reads
-use Rattle.listing.proofs.put64.Reads as put64-reads
 
 abbrev Inv-loop : tie.InvT-loop
 Inv-loop pset pside leaves plans side₀ k₀ side k = (leaves ≤ k) × (k - leaves ≤ plans - leaves) × (side ≡ sets side₀ 0 (sideSets pset pside leaves k))

@@ -1,3 +1,4 @@
+-- `listing::text_length` meets its contract. Assumes nothing.
 use borrow.Author.Needs.{needs}
 use native.Mathlib.Omega.{arith}
 use mathlib.Core.Path.{_≡_, ap}
@@ -7,9 +8,6 @@ use Rattle.listing.specs.Laws.{decimal-ten}
 use Rattle.listing.specs.TextLaws.{head-bound, lines-bound, lines-longer}
 use Rattle.listing.proofs.text_length.Statement.{statement}
 use Rattle.listing.proofs.text_length.Tie as tie
-use Rattle.listing.proofs.text_length.Reads as reads
-use Rattle.listing.proofs.text_length.Lts as lts
-use Rattle.listing.proofs.decimal_length.Reads as decimal-length-reads
 
 abbrev Inv-loop : tie.InvT-loop
 Inv-loop answer trials visits n₀ i₀ n i = (i ≤ trials) × (n ≡ headLength answer trials visits + linesLength i)

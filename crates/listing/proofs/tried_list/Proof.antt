@@ -1,20 +1,16 @@
+-- `listing::tried_list` meets its contract. Assumes nothing.
 use borrow.Author.Needs.{needs}
 use native.Mathlib.Omega.{arith}
 use mathlib.Core.Path.{_≡_, ap, _∙_}
 use Prim.Native.Nat.{_-_, _≤_}
 use lib.ListN.{length}
 use lib.Seq.{length-sets}
-use Rattle.definition.specs.TriedList.{decimal, triedLines}
+use Rattle.definition.specs.TriedList.{triedLines}
 use Rattle.listing.specs.Text.{Puts, pairsOf}
-use Rattle.listing.specs.TextLaws.{line-length, head-bound, lines-bound, lines-length, puts-lines-none, puts-lines-more, text-length, puts-text, no-room, room}
+use Rattle.listing.specs.Laws.{head-end}
+use Rattle.listing.specs.TextLaws.{lines-bound, lines-length, puts-lines-none, puts-lines-more, text-length, puts-text, no-room, room}
 use Rattle.listing.proofs.tried_list.Statement.{statement}
 use Rattle.listing.proofs.tried_list.Tie as tie
-use Rattle.listing.proofs.tried_list.Reads as reads
-use Rattle.listing.proofs.tried_list.Lts as lts
-use Rattle.listing.proofs.at64.Reads as at64-reads
-use Rattle.listing.proofs.put_header.Reads as put-header-reads
-use Rattle.listing.proofs.put_line.Reads as put-line-reads
-use Rattle.listing.proofs.text_length.Reads as text-length-reads
 
 abbrev Inv-loop : tie.InvT-loop
 Inv-loop answer visits left right trials out₀ at₀ i₀ out at i = (i ≤ trials) × Puts (triedLines 0 (pairsOf left right i)) out₀ out at₀ at
@@ -41,7 +37,7 @@ at64-requires-2 : tie.Need-at64-requires-2 Inv-loop μ-loop
 at64-requires-2 c κs = search needs
 
 put-line-requires : tie.Need-put-line-requires Inv-loop μ-loop
-put-line-requires c κs = let a = c .before .before .before .before .before .before .before .before .before .before .before .before .before .before .args in let i = c .before .before .before .before .loop .i in omega (arith, lines-length (a .left .now) (a .right .now) i, lines-bound i (omega arith), line-length (decimal (a .answer)) (decimal (a .trials)) (decimal (a .visits)), head-bound (a .answer) (a .trials) (a .visits) (omega arith) (omega arith) (omega arith))
+put-line-requires c κs = let a = c .before .before .before .before .before .before .before .before .before .before .before .before .before .before .args in let i = c .before .before .before .before .loop .i in omega (arith, lines-length (a .left .now) (a .right .now) i, lines-bound i (omega arith), head-end _ _ _ (c .before .before .before .before .before .before .before .put-header .ensures) (omega arith) (omega arith) (omega arith))
 
 add-i : tie.Need-add-i Inv-loop μ-loop
 add-i c = omega arith
