@@ -123,10 +123,10 @@ fn text_length(answer: u32, trials: u32, visits: u32) -> usize
     ensures { λ r. ⌜ r ≡ headLength answer trials visits + linesLength trials ⌝ }
 {
     let mut n = decimal_length(answer) + decimal_length(trials) + decimal_length(visits) + 3;
-    let mut i: u32 = 0;
-    while i < trials {
-        n += decimal_length(i) + 35;
-        i += 1;
+    let mut k: u32 = 0;
+    while k < trials {
+        n += decimal_length(k) + 35;
+        k += 1;
     }
     n
 }

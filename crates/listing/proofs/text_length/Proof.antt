@@ -10,10 +10,10 @@ use Rattle.listing.proofs.text_length.Statement.{statement}
 use Rattle.listing.proofs.text_length.Tie as tie
 
 abbrev Inv-loop : tie.InvT-loop
-Inv-loop answer trials visits n₀ i₀ n i = (i ≤ trials) × (n ≡ headLength answer trials visits + linesLength i)
+Inv-loop answer trials visits n₀ k₀ n k = (k ≤ trials) × (n ≡ headLength answer trials visits + linesLength k)
 
 abbrev μ-loop : tie.MeasureT-loop
-μ-loop answer trials visits n₀ i₀ n i = trials - i
+μ-loop answer trials visits n₀ k₀ n k = trials - k
 
 decimal-length-requires : tie.Need-decimal-length-requires Inv-loop μ-loop
 decimal-length-requires c κs = search needs
@@ -41,22 +41,22 @@ decimal-length-requires-4 : tie.Need-decimal-length-requires-4 Inv-loop μ-loop
 decimal-length-requires-4 c κs = search needs
 
 add-n-4 : tie.Need-add-n-4 Inv-loop μ-loop
-add-n-4 c = omega (arith, decimal-ten (c .before .before .loop .i) (omega arith))
+add-n-4 c = omega (arith, decimal-ten (c .before .before .loop .k) (omega arith))
 
 add-n-5 : tie.Need-add-n-5 Inv-loop μ-loop
-add-n-5 c = omega (arith, decimal-ten (c .before .before .loop .i) (omega arith), head-bound (c .before .before .before .before .before .before .args .answer) (c .before .before .before .before .before .before .args .trials) (c .before .before .before .before .before .before .args .visits) (omega arith) (omega arith) (omega arith), lines-bound (c .before .before .loop .i) (omega arith))
+add-n-5 c = omega (arith, decimal-ten (c .before .before .loop .k) (omega arith), head-bound (c .before .before .before .before .before .before .args .answer) (c .before .before .before .before .before .before .args .trials) (c .before .before .before .before .before .before .args .visits) (omega arith) (omega arith) (omega arith), lines-bound (c .before .before .loop .k) (omega arith))
 
-add-i : tie.Need-add-i Inv-loop μ-loop
-add-i c = omega arith
+add-k : tie.Need-add-k Inv-loop μ-loop
+add-k c = omega arith
 
 loop-less : tie.Need-loop-less Inv-loop μ-loop
 loop-less c = omega arith
 
 loop-again : tie.Need-loop-again Inv-loop μ-loop
-loop-again c = (omega arith, omega (arith, lines-longer (c .before .before .loop .i)))
+loop-again c = (omega arith, omega (arith, lines-longer (c .before .before .loop .k)))
 
 returns : tie.Need-returns Inv-loop μ-loop
-returns c = let e : c .before .loop .i ≡ c .before .before .before .before .before .args .trials = omega arith in omega (arith, ap linesLength e)
+returns c = let e : c .before .loop .k ≡ c .before .before .before .before .before .args .trials = omega arith in omega (arith, ap linesLength e)
 
 pub text-length-spec : {M : Type 1} → statement M
 text-length-spec =
@@ -74,7 +74,7 @@ text-length-spec =
     decimal-length-requires-4
     add-n-4
     add-n-5
-    add-i
+    add-k
     loop-less
     loop-again
     returns)
