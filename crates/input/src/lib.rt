@@ -3,7 +3,7 @@
 ghost use mathlib.Core.Path.{_≡_};
 ghost use mathlib.Core.List.{_++_, map};
 ghost use Prim.Native.Nat.{_+_, _<_, _≤_};
-ghost use lib.ListN.{take, drop};
+ghost use lib.ListN.{length, take, drop};
 ghost use Rattle.definition.specs.Question.{Item, Predicate, openQuestion, leafCount};
 ghost use Rattle.definition.specs.Sheet.{questionOf};
 ghost use Rattle.definition.specs.Call.{leavesOf};
@@ -21,7 +21,8 @@ pub struct LeafTable {
 
 pub fn kinds(sheet: &[u8], s: Sections) -> [u32; 127]
     requires { ⌜ Placed (now sheet) s ⌝ }
-    ensures { λ r. ⌜ take (s .items .count) r ≡ map (λ (i : Item). i .kind) (questionOf (now (sheet .entry)) .items) ⌝ }
+    ensures size { λ r. ⌜ length r ≡ 127 ⌝ }
+    ensures kinds { λ r. ⌜ take (s .items .count) r ≡ map (λ (i : Item). i .kind) (questionOf (now (sheet .entry)) .items) ⌝ }
 {
     let n = s.items.count;
     let mut r = [0u32; 127];
@@ -35,7 +36,8 @@ pub fn kinds(sheet: &[u8], s: Sections) -> [u32; 127]
 
 pub fn selectivities(sheet: &[u8], s: Sections) -> [u32; 256]
     requires { ⌜ Placed (now sheet) s ⌝ }
-    ensures { λ r. ⌜ take (s .predicates .count) r ≡ map (λ (p : Predicate). p .selectivity) (questionOf (now (sheet .entry)) .predicates) ⌝ }
+    ensures size { λ r. ⌜ length r ≡ 256 ⌝ }
+    ensures selectivities { λ r. ⌜ take (s .predicates .count) r ≡ map (λ (p : Predicate). p .selectivity) (questionOf (now (sheet .entry)) .predicates) ⌝ }
 {
     let n = s.predicates.count as u32;
     let mut r = [0u32; 256];

@@ -1,15 +1,17 @@
 -- The lent lists, their lengths as stores, and what a call leaves in them. Definitions only.
 use mathlib.Core.Path.{_≡_}
-use mathlib.Core.List.{List, [], _∷_}
-use Prim.Native.Nat.{ℕ}
+use mathlib.Core.List.{List, [], _∷_, map}
+use Prim.Native.Nat.{ℕ, _≤_}
 use lib.ListN.{length}
 use lib.Ieee.{Float}
 use Rattle.definition.specs.Lists.{column}
+use Rattle.definition.specs.Question as question
+use Rattle.definition.specs.Question.{Item, Predicate}
 use Rattle.definition.specs.Hypergraph.{Edge}
 use Rattle.definition.specs.Search.{Plan, Entry}
 use Rattle.definition.specs.Call.{Rooms, roomsOf, Outcome, refusedWith, leavesIn}
 use Rattle.sheet.specs.Views.{sectionsOf}
-use Rattle.candidate.specs.Store.{Lists, lists}
+use Rattle.candidate.specs.Store.{Lists, Given, lists, given}
 use Rattle.planner.specs.declared.Question.{Question}
 
 pub record EdgeLists : Type 0 where
@@ -19,6 +21,17 @@ pub record EdgeLists : Type 0 where
   pub source : List ℕ
   pub kind : List ℕ
 
+abbrev pub edgeLists : List ℕ → List ℕ → List ℕ → List ℕ → List ℕ → EdgeLists
+edgeLists a b c d e = record { left = a; right = b; predicate = c; source = d; kind = e }
+
+-- no list is shorter than x
+pub record Longer (x : ℕ) (h : EdgeLists) : Type 0 where
+  pub left : x ≤ length (h .left)
+  pub right : x ≤ length (h .right)
+  pub predicate : x ≤ length (h .predicate)
+  pub source : x ≤ length (h .source)
+  pub kind : x ≤ length (h .kind)
+
 -- "A store is one lent list for each field": the edges', and those of the plans and the memo
 pub record Lent : Type 0 where
   pub edges : EdgeLists
@@ -26,7 +39,7 @@ pub record Lent : Type 0 where
 
 abbrev pub lent : List ℕ → List ℕ → List ℕ → List ℕ → List ℕ → List ℕ → List ℕ → List ℕ → List ℕ → List ℕ → List Float → List Float → List ℕ → List ℕ → Lent
 lent a b c d e f g h i j k l m n =
-    record { edges = record { left = a; right = b; predicate = c; source = d; kind = e }; plans = lists f g h i j k l m n }
+    record { edges = edgeLists a b c d e; plans = lists f g h i j k l m n }
 
 abbrev pub roomsIn : Lent → Rooms
 roomsIn h =
@@ -55,6 +68,11 @@ plansHeld ps m h =
 -- "exactly the edges, plans and memo entries made so far, with the remaining places untouched"
 abbrev pub holds : Outcome → Lent → Lent
 holds o h = record { edges = edgesHeld (o .edges) (h .edges); plans = plansHeld (o .plans) (o .memo) (h .plans) }
+
+-- what the search is given beside its lists: the first n edges, and the kinds and selectivities of the question
+abbrev pub givenFor : question.Question → ℕ → List ℕ → List ℕ → List ℕ → List ℕ → Rooms → Given
+givenFor q n l r p s rooms =
+    given n l r p s (map (λ (i : Item). i .kind) (q .items)) (map (λ (p : Predicate). p .selectivity) (q .predicates)) (rooms .plans) (rooms .memo)
 
 -- what the run of an accepted sheet is given
 pub record Runs (bs : List ℕ) (q : Question) (rooms : Rooms) (h : Lent) : Type 0 where

@@ -1,14 +1,14 @@
 -- The lengths of the stores, and what a call that is not refused has room for. Assumes nothing.
-use mathlib.Core.Path.{_≡_, refl, sym, ap, _∙_}
+use mathlib.Core.Path.{_≡_, refl, ap₂, _∙_}
 use mathlib.Core.Bool.{Bool, true, false, _||_}
 use mathlib.Core.List.{List, [], _∷_, _++_}
-use Prim.Native.Nat.{ℕ, zero, suc, min, _≤_, _<_}
+use Prim.Native.Nat.{ℕ, zero, suc, _≤_, _<_}
 use native.Mathlib.Omega.{arith}
 use lib.Dec.{ltb}
 use borrow.Author.Tests.{ltb-false, lt-ltb, le-ltb}
 use Rattle.definition.specs.Answers.{tooManyEdges, storeTooSmall}
 use Rattle.definition.specs.Question.{Question, openQuestion, leafCount}
-use Rattle.definition.specs.Sheet.{Check, check, firstFailing, sheetAnswer, questionOf}
+use Rattle.definition.specs.Sheet.{check, firstFailing, sheetAnswer, questionOf}
 use Rattle.definition.specs.Edges.{edgeCount}
 use Rattle.definition.specs.Call.{Rooms, storeLength, edgeChecks, storeChecks, refusedWith}
 
@@ -22,6 +22,9 @@ store-first n ns = omega arith
 pub store-rest : (n : ℕ) (ns : List ℕ) → storeLength (n ∷ ns) ≤ storeLength ns
 unfolding storeLength
 store-rest n ns = omega arith
+
+pub rooms-eq : {a b c d e f : ℕ} → a ≡ d → b ≡ e → c ≡ f → _≡_ {A = Rooms} (record { edges = a; plans = b; memo = c }) (record { edges = d; plans = e; memo = f })
+rooms-eq p q r = cc
 
 -- ---- 10 and 11, and neither
 
@@ -50,6 +53,9 @@ module _ (q : Question) (rooms : Rooms) where
   unfolding firstFailing
   stores-fit h e = rw (le-ltb 256 edges h, e, firstFailing)
 
+  pub small-is : {e n : ℕ} {b : Bool} → e ≡ edges → n ≡ leaves → b ≡ (ltb (rooms .edges) e || ltb (rooms .plans) n || ltb (rooms .memo) n) → b ≡ small
+  small-is e n f = f ∙ ap₂ (λ (x y : ℕ). ltb (rooms .edges) x || ltb (rooms .plans) y || ltb (rooms .memo) y) e n
+
   -- where neither fails there is room for the edges and for the leaves
   pub record Room : Type 0 where
     pub few : edges ≤ 256
@@ -75,7 +81,10 @@ pub not-refused : (bs : List ℕ) (rooms : Rooms) → refusedWith bs rooms ≡ 0
 unfolding refusedWith
 not-refused bs rooms = go (sheetAnswer bs) refl
   where
-    go : (n : ℕ) → sheetAnswer bs ≡ n → (elim n [ zero ↦ storesNumber (questionOf bs) rooms | suc k ↦ suc k ]) ≡ 0 → (sheetAnswer bs ≡ 0) × Room (questionOf bs) rooms
+    refused : ℕ → ℕ
+    refused n = elim n [ zero ↦ storesNumber (questionOf bs) rooms | suc k ↦ suc k ]
+
+    go : (n : ℕ) → sheetAnswer bs ≡ n → refused n ≡ 0 → (sheetAnswer bs ≡ 0) × Room (questionOf bs) rooms
     go zero e z = (e, room (questionOf bs) rooms z)
     go (suc k) e z = absurd (omega arith)
 

@@ -1,11 +1,14 @@
 // The lengths of the stores, and the checks before anything is searched: the sheet's own, then 10 and 11.
+use crate::Checked;
+use crate::Question;
 use crate::Refusal;
+use crate::Rooms;
 use sheet::Sections;
 use sheet::SheetAnswer;
 ghost use mathlib.Core.Path.{_≡_};
 ghost use mathlib.Core.List.{[], _∷_, _++_};
 ghost use mathlib.Core.Bool.{_||_};
-ghost use Prim.Native.Nat.{min};
+ghost use Prim.Native.Nat.{min, _≤_};
 ghost use lib.Dec.{ltb};
 ghost use Rattle.definition.specs.Call.{storeLength, edgeChecks, storeChecks, refusedWith, leavesIn};
 ghost use Rattle.definition.specs.Sheet.{questionOf, firstFailing};
@@ -14,47 +17,28 @@ ghost use Rattle.planner.specs.Answers.{checkedNumber, roomsOf};
 ghost use Rattle.planner.specs.declared.Question.{Question};
 ghost use Rattle.planner.specs.declared.Checked as checked;
 
-// The lengths of the three stores.
-pub struct Rooms {
-    pub edges: u32,
-    pub plans: u32,
-    pub memo: u32,
-}
-
-impl Rooms {
-    // A store that is longer counts as one of this length.
-    pub const LONGEST: usize = 16777216;
-}
-
-// Where an accepted sheet's tables stand, and how many leaves it has.
-pub struct Question {
-    pub sections: Sections,
-    pub leaves: u32,
-}
-
-pub enum Checked {
-    Refused(Refusal),
-    Accepted(Question),
-}
-
 fn shorter(a: usize, b: usize) -> usize
     ensures { λ r. ⌜ r ≡ min a b ⌝ }
 {
     if a < b { a } else { b }
 }
 
+fn shortest(a: usize, b: usize, c: usize, d: usize) -> usize
+    ensures { λ r. ⌜ (r ≡ storeLength (a ∷ b ∷ c ∷ d ∷ [])) × (r ≤ 16777216) ⌝ }
+{
+    shorter(a, shorter(b, shorter(c, shorter(d, Rooms::LONGEST))))
+}
+
 pub fn edge_room(a: usize, b: usize, c: usize, d: usize, e: usize) -> u32
     ensures { λ r. ⌜ r ≡ storeLength (a ∷ b ∷ c ∷ d ∷ e ∷ []) ⌝ }
 {
-    let n = shorter(c, shorter(d, shorter(e, Rooms::LONGEST)));
-    shorter(a, shorter(b, n)) as u32
+    shorter(a, shortest(b, c, d, e)) as u32
 }
 
 pub fn plan_room(a: usize, b: usize, c: usize, d: usize, e: usize, f: usize, g: usize) -> u32
     ensures { λ r. ⌜ r ≡ storeLength (a ∷ b ∷ c ∷ d ∷ e ∷ f ∷ g ∷ []) ⌝ }
 {
-    let n = shorter(d, shorter(e, shorter(f, shorter(g, Rooms::LONGEST))));
-    shorter(a, shorter(b, shorter(c, n))) as u32
+    shorter(a, shorter(b, shorter(c, shortest(d, e, f, g)))) as u32
 }
 
 pub fn memo_room(a: usize, b: usize) -> u32

@@ -7,10 +7,9 @@ ghost use mathlib.Core.Path.{_≡_};
 ghost use Rattle.definition.specs.Call.{defaultLimit, call};
 ghost use Rattle.planner.specs.Answers.{reported, reportedOf};
 ghost use Rattle.planner.specs.Lent.{lent, roomsIn, holds};
-use checks::Checked;
-use checks::Rooms;
 use search::Ending;
 use sheet::Fault;
+use sheet::Sections;
 
 // Why nothing is searched and nothing written.
 pub enum Refusal {
@@ -38,6 +37,29 @@ pub enum Answer {
     Ended(Outcome),
 }
 
+// The lengths of the three stores.
+struct Rooms {
+    pub edges: u32,
+    pub plans: u32,
+    pub memo: u32,
+}
+
+impl Rooms {
+    // A store that is longer counts as one of this length.
+    pub const LONGEST: usize = 16777216;
+}
+
+// Where an accepted sheet's tables stand, and how many leaves it has.
+struct Question {
+    pub sections: Sections,
+    pub leaves: u32,
+}
+
+enum Checked {
+    Refused(Refusal),
+    Accepted(Question),
+}
+
 // Plans the joins of a sheet within limit visits.
 pub fn plan(
     sheet: &[u8],
@@ -61,8 +83,22 @@ pub fn plan(
     ensures lists { λ r. ⌜ lent (now (eleft .exit)) (now (eright .exit)) (now (epredicate .exit)) (now (esource .exit)) (now (ekind .exit)) (now (pset .exit)) (now (pleft .exit)) (now (pright .exit)) (now (plead .exit)) (now (pkind .exit)) (now (prows .exit)) (now (pcost .exit)) (now (mset .exit)) (now (mplan .exit)) ≡ holds (call (now (sheet .entry)) (roomsIn (lent (now (eleft .entry)) (now (eright .entry)) (now (epredicate .entry)) (now (esource .entry)) (now (ekind .entry)) (now (pset .entry)) (now (pleft .entry)) (now (pright .entry)) (now (plead .entry)) (now (pkind .entry)) (now (prows .entry)) (now (pcost .entry)) (now (mset .entry)) (now (mplan .entry)))) limit) (lent (now (eleft .entry)) (now (eright .entry)) (now (epredicate .entry)) (now (esource .entry)) (now (ekind .entry)) (now (pset .entry)) (now (pleft .entry)) (now (pright .entry)) (now (plead .entry)) (now (pkind .entry)) (now (prows .entry)) (now (pcost .entry)) (now (mset .entry)) (now (mplan .entry))) ⌝ }
 {
     let rooms = Rooms {
-        edges: checks::edge_room(eleft.len(), eright.len(), epredicate.len(), esource.len(), ekind.len()),
-        plans: checks::plan_room(pset.len(), pleft.len(), pright.len(), plead.len(), pkind.len(), prows.len(), pcost.len()),
+        edges: checks::edge_room(
+            eleft.len(),
+            eright.len(),
+            epredicate.len(),
+            esource.len(),
+            ekind.len(),
+        ),
+        plans: checks::plan_room(
+            pset.len(),
+            pleft.len(),
+            pright.len(),
+            plead.len(),
+            pkind.len(),
+            prows.len(),
+            pcost.len(),
+        ),
         memo: checks::memo_room(mset.len(), mplan.len()),
     };
     match checks::check(sheet, rooms) {

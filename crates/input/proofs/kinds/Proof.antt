@@ -51,7 +51,7 @@ returns c =
     let e : o .i ≡ f .args .s .items .count = omega arith in
     let xs = map (λ (x : Item). x .kind) (questionOf (f .args .sheet .now) .items) in
     let all : length xs ≤ o .i = omega (arith, length-map (questionOf (f .args .sheet .now) .items) (λ (x : Item). x .kind), length-items (f .args .sheet .now), f .pre .items-many) in
-    ap (λ (k : ℕ). take k (o .r)) (sym e) ∙ o .inv .2 ∙ take-all _ xs all
+    (o .inv .1, ap (λ (k : ℕ). take k (o .r)) (sym e) ∙ o .inv .2 ∙ take-all _ xs all)
 
 pub kinds-spec : {M : Type 1} → statement M
 kinds-spec =

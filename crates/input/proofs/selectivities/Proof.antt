@@ -57,7 +57,7 @@ returns c =
     let e : o .p ≡ f .args .s .predicates .count = omega arith in
     let xs = map (λ (x : Predicate). x .selectivity) (questionOf (f .args .sheet .now) .predicates) in
     let all : length xs ≤ o .p = omega (arith, length-map (questionOf (f .args .sheet .now) .predicates) (λ (x : Predicate). x .selectivity), length-predicates (f .args .sheet .now), f .pre .predicates-many) in
-    ap (λ (k : ℕ). take k (o .r)) (sym e) ∙ o .inv .2 ∙ take-all _ xs all
+    (o .inv .1, ap (λ (k : ℕ). take k (o .r)) (sym e) ∙ o .inv .2 ∙ take-all _ xs all)
 
 pub selectivities-spec : {M : Type 1} → statement M
 selectivities-spec =
