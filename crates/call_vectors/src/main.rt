@@ -1,38 +1,26 @@
-// Replays recorded calls from standard input (crate records): each sheet's edges are built and compared with the record's. Behind its sheet a
-// record has 14 list lengths, the limit, the answer, the numbers of edges, plans and memo entries, the visits and the chosen plan, each a word,
-// then the edges, plans and memo entries. The crate's stdin is the oracle's calls.bin.
+// Replays recorded calls from standard input (crate records). For each record the 14 lists are filled with a pattern and lent in the recorded
+// lengths; then the answer, the counts, every entry, and the pattern behind the entries are compared. The crate's stdin is the oracle's
+// calls.bin.
+mod entries;
+mod lists;
+mod record;
+
 use libc::STDOUT_FILENO;
-use sheet::Sections;
-use sheet::SheetAnswer;
+use planner::Answer;
+use record::Reply;
+use search::Ending;
 ghost use mathlib.Core.Path.{_≡_};
 ghost use Prim.Native.Nat.{_+_, _*_, _<_, _≤_};
 ghost use lib.ListN.{length};
-ghost use Rattle.definition.specs.Sheet.{questionOf};
-ghost use Rattle.definition.specs.Accepted.{Sound};
-ghost use Rattle.sheet.specs.Views.{Placed};
 
-// Where a record's words and edges stand behind its sheet, in bytes.
-const ANSWER: usize = 60;
-
-const EDGE_COUNT: usize = 64;
-
-const EDGES: usize = 84;
-
-const TOO_MANY_EDGES: u32 = 10;
-
-const LISTS_TOO_SHORT: u32 = 11;
+const NONE: u32 = 4294967295;
 
 struct Tally {
     records: u32,
-    accepted: u32,
     edges: u32,
+    plans: u32,
+    memo: u32,
     agree: u32,
-}
-
-// The answer to a sheet alone, and how many edges were built: 0 and none where it is refused.
-struct Built {
-    answer: u32,
-    edges: usize,
 }
 
 // Room for the longest record: a sheet of 21,528 bytes, 256 edges, 1,088 plans and 512 memo entries take 78,452 bytes.
@@ -42,213 +30,318 @@ fn record_space() -> [u8; 81920]
     [0; 81920]
 }
 
-// The edges of an accepted sheet, put into the lists.
-fn build_accepted(
-    sheet: &[u8],
-    s: Sections,
-    left: &mut [u64],
-    right: &mut [u64],
-    predicate: &mut [u32],
-    source: &mut [u32],
-    kind: &mut [u32],
-) -> Built
-    requires { ⌜ Placed (now sheet) s × Sound (questionOf (now sheet)) ⌝ }
-    requires { ⌜ (length (now left) ≡ 256) × (length (now right) ≡ 256) × (length (now predicate) ≡ 256) × (length (now source) ≡ 256) × (length (now kind) ≡ 256) ⌝ }
-    ensures { λ r. ⌜ r .edges ≤ 256 ⌝ }
-{
-    let n = hypergraph::edge_count(sheet, s);
-    if 256 < n {
-        return Built {
-            answer: TOO_MANY_EDGES,
-            edges: 0,
-        };
-    }
-    let b = hypergraph::build_hypergraph(sheet, s);
-    b.hand_over(left, right, predicate, source, kind);
-    Built {
-        answer: 0,
-        edges: b.edges,
+fn chosen(ending: Ending) -> u32 {
+    match ending {
+        Ending::Planned(p) => p.0,
+        _ => NONE,
     }
 }
 
-fn build(
-    sheet: &[u8],
-    left: &mut [u64],
-    right: &mut [u64],
-    predicate: &mut [u32],
-    source: &mut [u32],
-    kind: &mut [u32],
-) -> Built
-    requires { ⌜ (length (now left) ≡ 256) × (length (now right) ≡ 256) × (length (now predicate) ≡ 256) × (length (now source) ≡ 256) × (length (now kind) ≡ 256) ⌝ }
-    ensures { λ r. ⌜ r .edges ≤ 256 ⌝ }
-{
-    match sheet::check(sheet) {
-        SheetAnswer::Refused(f) => Built {
-            answer: f.number(),
+fn number(ending: Ending) -> u32 {
+    match ending {
+        Ending::Planned(_) => 0,
+        Ending::PlansFull => 12,
+        Ending::MemoFull => 13,
+        Ending::VisitsSpent => 14,
+        Ending::NoPlan => 15,
+    }
+}
+
+fn reply_of(answer: Answer) -> Reply {
+    match answer {
+        Answer::Refused(r) => Reply {
+            answer: r.number(),
             edges: 0,
+            plans: 0,
+            memo: 0,
+            visits: 0,
+            chosen: NONE,
         },
-        SheetAnswer::Accepted(s) => {
-            build_accepted(sheet, s, left, right, predicate, source, kind)
+        Answer::Ended(o) => {
+            let ending = o.ending;
+            Reply {
+                answer: number(ending),
+                edges: o.edges,
+                plans: o.plans,
+                memo: o.memo,
+                visits: o.visits,
+                chosen: chosen(ending),
+            }
         }
     }
 }
 
-// Whether place i of the lists has the edge of these 28 bytes.
-fn same_edge(
-    edge: &[u8],
-    i: usize,
-    left: &[u64],
-    right: &[u64],
-    predicate: &[u32],
-    source: &[u32],
-    kind: &[u32],
-) -> bool
-    requires { ⌜ (i < length (now left)) × (i < length (now right)) × (i < length (now predicate)) × (i < length (now source)) × (i < length (now kind)) ⌝ }
-{
-    if records::long(edge, 0) != left[i] {
-        return false;
-    }
-    if records::long(edge, 8) != right[i] {
-        return false;
-    }
-    if records::word(edge, 16) != predicate[i] {
-        return false;
-    }
-    if records::word(edge, 20) != source[i] {
-        return false;
-    }
-    records::word(edge, 24) == kind[i]
-}
-
-// Whether the lists begin with the n edges that the bytes have.
-fn same_edges(
-    edges: &[u8],
-    n: usize,
-    left: &[u64],
-    right: &[u64],
-    predicate: &[u32],
-    source: &[u32],
-    kind: &[u32],
-) -> bool
-    requires { ⌜ (n ≤ length (now left)) × (n ≤ length (now right)) × (n ≤ length (now predicate)) × (n ≤ length (now source)) × (n ≤ length (now kind)) ⌝ }
-{
-    if edges.len() / 28 < n {
-        return false;
-    }
-    let mut i: usize = 0;
-    while i < n {
-        let at = 28 * i;
-        let end = at + 28;
-        if !same_edge(&edges[at..end], i, left, right, predicate, source, kind) {
-            return false;
-        }
-        i += 1;
-    }
-    true
-}
-
-// Whether the lists begin with the edges that the record has, and it has n.
-fn edges_agree(
-    words: &[u8],
-    n: usize,
-    left: &[u64],
-    right: &[u64],
-    predicate: &[u32],
-    source: &[u32],
-    kind: &[u32],
-) -> bool
-    requires { ⌜ (n ≤ length (now left)) × (n ≤ length (now right)) × (n ≤ length (now predicate)) × (n ≤ length (now source)) × (n ≤ length (now kind)) ⌝ }
-{
-    if words.len() < EDGES {
-        return false;
-    }
-    if records::word(words, EDGE_COUNT) as usize != n {
-        return false;
-    }
-    same_edges(&words[EDGES..], n, left, right, predicate, source, kind)
-}
-
-fn one_if(yes: bool) -> u32
-    ensures { λ r. ⌜ r ≤ 1 ⌝ }
-{
-    if yes { 1 } else { 0 }
-}
-
-// One record. Where the lists are too short for a call, it has no edges to compare.
-fn replayed(
+// The recorded call, over parts of the plan and memo lists in the recorded lengths. The edge lists are such parts already.
+fn call_with_edges(
     record: &[u8],
-    left: &mut [u64],
-    right: &mut [u64],
-    predicate: &mut [u32],
-    source: &mut [u32],
-    kind: &mut [u32],
-) -> Tally
-    requires { ⌜ (length (now left) ≡ 256) × (length (now right) ≡ 256) × (length (now predicate) ≡ 256) × (length (now source) ≡ 256) × (length (now kind) ≡ 256) ⌝ }
-    ensures { λ r. ⌜ (r .records ≡ 1) × (r .accepted ≤ 1) × (r .edges ≤ 256) × (r .agree ≤ 1) ⌝ }
-{
+    eleft: &mut [u64],
+    eright: &mut [u64],
+    epredicate: &mut [u32],
+    esource: &mut [u32],
+    ekind: &mut [u32],
+    pset: &mut [u64],
+    pleft: &mut [u32],
+    pright: &mut [u32],
+    plead: &mut [u32],
+    pkind: &mut [u32],
+    prows: &mut [f64],
+    pcost: &mut [f64],
+    mset: &mut [u64],
+    mplan: &mut [u32],
+) -> Answer {
     let words = records::after_sheet(record);
-    let answer = records::word(words, ANSWER);
-    let b = build(
+    let a = record::list_length(words, 5, pset.len());
+    let b = record::list_length(words, 6, pleft.len());
+    let c = record::list_length(words, 7, pright.len());
+    let d = record::list_length(words, 8, plead.len());
+    let e = record::list_length(words, 9, pkind.len());
+    let f = record::list_length(words, 10, prows.len());
+    let g = record::list_length(words, 11, pcost.len());
+    let h = record::list_length(words, 12, mset.len());
+    let i = record::list_length(words, 13, mplan.len());
+    planner::plan(
         records::sheet_of(record),
-        left,
-        right,
-        predicate,
-        source,
-        kind,
-    );
-    if b.answer != 0 {
-        return Tally {
-            records: 1,
-            accepted: 0,
-            edges: 0,
-            agree: one_if(answer == b.answer),
-        };
+        record::limit(words),
+        eleft,
+        eright,
+        epredicate,
+        esource,
+        ekind,
+        &mut pset[0..a],
+        &mut pleft[0..b],
+        &mut pright[0..c],
+        &mut plead[0..d],
+        &mut pkind[0..e],
+        &mut prows[0..f],
+        &mut pcost[0..g],
+        &mut mset[0..h],
+        &mut mplan[0..i],
+    )
+}
+
+// The recorded call, over parts of all lists.
+fn call(
+    record: &[u8],
+    eleft: &mut [u64],
+    eright: &mut [u64],
+    epredicate: &mut [u32],
+    esource: &mut [u32],
+    ekind: &mut [u32],
+    pset: &mut [u64],
+    pleft: &mut [u32],
+    pright: &mut [u32],
+    plead: &mut [u32],
+    pkind: &mut [u32],
+    prows: &mut [f64],
+    pcost: &mut [f64],
+    mset: &mut [u64],
+    mplan: &mut [u32],
+) -> Answer {
+    let words = records::after_sheet(record);
+    let a = record::list_length(words, 0, eleft.len());
+    let b = record::list_length(words, 1, eright.len());
+    let c = record::list_length(words, 2, epredicate.len());
+    let d = record::list_length(words, 3, esource.len());
+    let e = record::list_length(words, 4, ekind.len());
+    call_with_edges(
+        record,
+        &mut eleft[0..a],
+        &mut eright[0..b],
+        &mut epredicate[0..c],
+        &mut esource[0..d],
+        &mut ekind[0..e],
+        pset,
+        pleft,
+        pright,
+        plead,
+        pkind,
+        prows,
+        pcost,
+        mset,
+        mplan,
+    )
+}
+
+// Whether the reply and the lists are what the record has.
+fn agrees(
+    words: &[u8],
+    r: Reply,
+    eleft: &[u64],
+    eright: &[u64],
+    epredicate: &[u32],
+    esource: &[u32],
+    ekind: &[u32],
+    pset: &[u64],
+    pleft: &[u32],
+    pright: &[u32],
+    plead: &[u32],
+    pkind: &[u32],
+    prows: &[f64],
+    pcost: &[f64],
+    mset: &[u64],
+    mplan: &[u32],
+) -> bool {
+    let p = record::places_in(words);
+    if words.len() != p.end {
+        return false;
     }
-    if answer == LISTS_TOO_SHORT {
-        return Tally {
-            records: 1,
-            accepted: 1,
-            edges: 0,
-            agree: 1,
-        };
+    if !record::has_reply(words, r) {
+        return false;
     }
-    let n = b.edges;
+    if !entries::same_edges(
+        words,
+        p.edges_at,
+        p.edges,
+        eleft,
+        eright,
+        epredicate,
+        esource,
+        ekind,
+    ) {
+        return false;
+    }
+    if !entries::same_plans(
+        words,
+        p.plans_at,
+        p.plans,
+        pset,
+        pleft,
+        pright,
+        plead,
+        pkind,
+        prows,
+        pcost,
+    ) {
+        return false;
+    }
+    entries::same_memo(words, p.memo_at, p.memo, mset, mplan)
+}
+
+// Whether the recorded call over these lists replies and leaves what the record has.
+fn compared(
+    record: &[u8],
+    eleft: &mut [u64],
+    eright: &mut [u64],
+    epredicate: &mut [u32],
+    esource: &mut [u32],
+    ekind: &mut [u32],
+    pset: &mut [u64],
+    pleft: &mut [u32],
+    pright: &mut [u32],
+    plead: &mut [u32],
+    pkind: &mut [u32],
+    prows: &mut [f64],
+    pcost: &mut [f64],
+    mset: &mut [u64],
+    mplan: &mut [u32],
+) -> bool {
+    let r = reply_of(call(
+        record,
+        eleft,
+        eright,
+        epredicate,
+        esource,
+        ekind,
+        pset,
+        pleft,
+        pright,
+        plead,
+        pkind,
+        prows,
+        pcost,
+        mset,
+        mplan,
+    ));
+    agrees(
+        records::after_sheet(record),
+        r,
+        eleft,
+        eright,
+        epredicate,
+        esource,
+        ekind,
+        pset,
+        pleft,
+        pright,
+        plead,
+        pkind,
+        prows,
+        pcost,
+        mset,
+        mplan,
+    )
+}
+
+// Over lists that hold nothing but the pattern.
+fn replayed(record: &[u8]) -> bool {
+    let mut eleft = [lists::LONG; 256];
+    let mut eright = [lists::LONG; 256];
+    let mut epredicate = [lists::WORD; 256];
+    let mut esource = [lists::WORD; 256];
+    let mut ekind = [lists::WORD; 256];
+    let mut pset = [lists::LONG; 1088];
+    let mut pleft = [lists::WORD; 1088];
+    let mut pright = [lists::WORD; 1088];
+    let mut plead = [lists::WORD; 1088];
+    let mut pkind = [lists::WORD; 1088];
+    let mut prows = [lists::NUMBER; 1088];
+    let mut pcost = [lists::NUMBER; 1088];
+    let mut mset = [lists::LONG; 512];
+    let mut mplan = [lists::WORD; 512];
+    compared(
+        record,
+        &mut eleft,
+        &mut eright,
+        &mut epredicate,
+        &mut esource,
+        &mut ekind,
+        &mut pset,
+        &mut pleft,
+        &mut pright,
+        &mut plead,
+        &mut pkind,
+        &mut prows,
+        &mut pcost,
+        &mut mset,
+        &mut mplan,
+    )
+}
+
+// One record.
+fn tally_of(record: &[u8]) -> Tally
+    ensures { λ r. ⌜ (r .records ≡ 1) × (r .edges ≤ 256) × (r .plans ≤ 1088) × (r .memo ≤ 512) × (r .agree ≤ 1) ⌝ }
+{
+    let p = record::places_in(records::after_sheet(record));
     Tally {
         records: 1,
-        accepted: 1,
-        edges: n as u32,
-        agree: one_if(edges_agree(words, n, left, right, predicate, source, kind)),
+        edges: p.edges as u32,
+        plans: p.plans as u32,
+        memo: p.memo as u32,
+        agree: if replayed(record) { 1 } else { 0 },
     }
 }
 
 fn sum(t: Tally, r: Tally) -> Tally
-    requires { ⌜ (t .records < 1000000) × (t .accepted ≤ t .records) × (t .edges ≤ 256 * t .records) × (t .agree ≤ t .records) ⌝ }
-    requires { ⌜ (r .records ≡ 1) × (r .accepted ≤ 1) × (r .edges ≤ 256) × (r .agree ≤ 1) ⌝ }
-    ensures { λ x. ⌜ (x .records ≡ t .records + 1) × (x .accepted ≤ x .records) × (x .edges ≤ 256 * x .records) × (x .agree ≤ x .records) ⌝ }
+    requires { ⌜ (t .records < 1000000) × (t .edges ≤ 256 * t .records) × (t .plans ≤ 1088 * t .records) × (t .memo ≤ 512 * t .records) × (t .agree ≤ t .records) ⌝ }
+    requires { ⌜ (r .records ≡ 1) × (r .edges ≤ 256) × (r .plans ≤ 1088) × (r .memo ≤ 512) × (r .agree ≤ 1) ⌝ }
+    ensures { λ x. ⌜ (x .records ≡ t .records + 1) × (x .edges ≤ 256 * x .records) × (x .plans ≤ 1088 * x .records) × (x .memo ≤ 512 * x .records) × (x .agree ≤ x .records) ⌝ }
 {
     Tally {
         records: t.records + r.records,
-        accepted: t.accepted + r.accepted,
         edges: t.edges + r.edges,
+        plans: t.plans + r.plans,
+        memo: t.memo + r.memo,
         agree: t.agree + r.agree,
     }
 }
 
 // All records, up to a million.
-fn replay(
-    buf: &mut [u8],
-    left: &mut [u64],
-    right: &mut [u64],
-    predicate: &mut [u32],
-    source: &mut [u32],
-    kind: &mut [u32],
-) -> Tally
-    requires { ⌜ (length (now left) ≡ 256) × (length (now right) ≡ 256) × (length (now predicate) ≡ 256) × (length (now source) ≡ 256) × (length (now kind) ≡ 256) ⌝ }
-{
+fn replay(buf: &mut [u8]) -> Tally {
     let mut t = Tally {
         records: 0,
-        accepted: 0,
         edges: 0,
+        plans: 0,
+        memo: 0,
         agree: 0,
     };
     while t.records < 1000000 {
@@ -256,30 +349,19 @@ fn replay(
         if n == 0 {
             return t;
         }
-        t = sum(t, replayed(&buf[..n], left, right, predicate, source, kind));
+        t = sum(t, tally_of(&buf[..n]));
     }
     t
 }
 
 fn main() {
     let mut space = record_space();
-    let mut left = [0u64; 256];
-    let mut right = [0u64; 256];
-    let mut predicate = [0u32; 256];
-    let mut source = [0u32; 256];
-    let mut kind = [0u32; 256];
     records::skip_line();
-    let t = replay(
-        &mut space,
-        &mut left,
-        &mut right,
-        &mut predicate,
-        &mut source,
-        &mut kind,
-    );
+    let t = replay(&mut space);
     records::print_number(b"", t.records as u64);
-    records::print_number(b" records, ", t.accepted as u64);
-    records::print_number(b" sheets accepted, ", t.edges as u64);
-    records::print_number(b" edges compared, ", t.agree as u64);
+    records::print_number(b" records, ", t.edges as u64);
+    records::print_number(b" edges, ", t.plans as u64);
+    records::print_number(b" plans, ", t.memo as u64);
+    records::print_number(b" memo entries, ", t.agree as u64);
     io::write_all(STDOUT_FILENO, b" records agree\n");
 }
