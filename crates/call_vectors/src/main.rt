@@ -168,10 +168,17 @@ fn edges_agree(
     same_edges(&words[EDGES..], n, left, right, predicate, source, kind)
 }
 
-fn one_if(yes: bool) -> u32
-    ensures { λ r. ⌜ r ≤ 1 ⌝ }
+// The tally of one record.
+fn tally_of(accepted: u32, edges: u32, agrees: bool) -> Tally
+    requires { ⌜ (accepted ≤ 1) × (edges ≤ 256) ⌝ }
+    ensures { λ r. ⌜ (r .records ≡ 1) × (r .accepted ≤ 1) × (r .edges ≤ 256) × (r .agree ≤ 1) ⌝ }
 {
-    if yes { 1 } else { 0 }
+    Tally {
+        records: 1,
+        accepted,
+        edges,
+        agree: if agrees { 1 } else { 0 },
+    }
 }
 
 // One record. Where the lists are too short for a call, it has no edges to compare.
@@ -197,28 +204,14 @@ fn replayed(
         kind,
     );
     if b.answer != 0 {
-        return Tally {
-            records: 1,
-            accepted: 0,
-            edges: 0,
-            agree: one_if(answer == b.answer),
-        };
+        return tally_of(0, 0, answer == b.answer);
     }
     if answer == LISTS_TOO_SHORT {
-        return Tally {
-            records: 1,
-            accepted: 1,
-            edges: 0,
-            agree: 1,
-        };
+        return tally_of(1, 0, true);
     }
     let n = b.edges;
-    Tally {
-        records: 1,
-        accepted: 1,
-        edges: n as u32,
-        agree: one_if(edges_agree(words, n, left, right, predicate, source, kind)),
-    }
+    let agrees = edges_agree(words, n, left, right, predicate, source, kind);
+    tally_of(1, n as u32, agrees)
 }
 
 fn sum(t: Tally, r: Tally) -> Tally
