@@ -7,6 +7,7 @@ mod record;
 
 use libc::STDOUT_FILENO;
 use planner::Answer;
+use planner::Refusal;
 use record::Reply;
 use search::Ending;
 ghost use mathlib.Core.Path.{_≡_};
@@ -30,6 +31,14 @@ fn record_space() -> [u8; 81920]
     [0; 81920]
 }
 
+fn refusal_number(refusal: Refusal) -> u32 {
+    match refusal {
+        Refusal::Sheet(f) => f.number(),
+        Refusal::TooManyEdges => 10,
+        Refusal::StoreTooSmall => 11,
+    }
+}
+
 fn chosen(ending: Ending) -> u32 {
     match ending {
         Ending::Planned(p) => p.0,
@@ -37,7 +46,7 @@ fn chosen(ending: Ending) -> u32 {
     }
 }
 
-fn number(ending: Ending) -> u32 {
+fn ending_number(ending: Ending) -> u32 {
     match ending {
         Ending::Planned(_) => 0,
         Ending::PlansFull => 12,
@@ -50,7 +59,7 @@ fn number(ending: Ending) -> u32 {
 fn reply_of(answer: Answer) -> Reply {
     match answer {
         Answer::Refused(r) => Reply {
-            answer: r.number(),
+            answer: refusal_number(r),
             edges: 0,
             plans: 0,
             memo: 0,
@@ -60,7 +69,7 @@ fn reply_of(answer: Answer) -> Reply {
         Answer::Ended(o) => {
             let ending = o.ending;
             Reply {
-                answer: number(ending),
+                answer: ending_number(ending),
                 edges: o.edges,
                 plans: o.plans,
                 memo: o.memo,

@@ -87,7 +87,7 @@ abbrev oneLeaf : List ℕ
 oneLeaf = 1 ∷ 24 ∷ 0 ∷ 40 ∷ 1 ∷ 40 ∷ 9 ∷ 4 ∷ 0 ∷ 1 ∷ 1 ∷ []
 
 -- "No items"
-abbrev noItems : List ℕ
+abbrev pub noItems : List ℕ
 noItems = 0 ∷ 24 ∷ 0 ∷ 24 ∷ 0 ∷ 24 ∷ []
 
 -- "Inner join with no predicates"

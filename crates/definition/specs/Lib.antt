@@ -21,6 +21,7 @@ pub mod Call
 pub mod Kept
 pub mod PlanRule
 pub mod OpenRule
+pub mod TriedList
 -- Computed examples.
 pub mod SheetSamples
 pub mod CandidateOrder
@@ -29,6 +30,7 @@ pub mod CostSamples
 pub mod DocumentSamples
 pub mod PlanRuleSamples
 pub mod OpenRuleSamples
+pub mod TriedListSamples
 -- Laws and theorems.
 pub mod ListLaws
 pub mod AllLaws

@@ -1,6 +1,5 @@
 -- One entry more in an array that is filled from the front. Assumes nothing.
 use mathlib.Core.Path.{_≡_, refl, sym, ap, ap₂, _∙_}
-use mathlib.Core.Bool.{Bool, true, false}
 use mathlib.Core.List.{List, [], _∷_, _++_, map}
 use Prim.Native.Nat.{ℕ, zero, suc, _+_, _≤_, _<_}
 use native.Mathlib.Omega.{arith}
@@ -8,30 +7,35 @@ use native.Mathlib.Numerals.{add-one}
 use native.Mathlib.Nat.{not-suc-le-zero, le-of-suc-le-suc}
 use lib.ListN.{length, getD, take, drop, set, length-set, length-map, List·getD-map, drop-of-length-le}
 use lib.Seq.{getD-set-same, getD-set-other, take-suc, drop-cons, append-snoc}
-use lib.Dec.{eqb}
 use borrow.Author.Tests.{eq-eqb, ne-eqb}
 use Rattle.definition.specs.Lists.{tabulate}
 use Rattle.definition.specs.ListLaws.{tabulate-more}
-use Rattle.definition.specs.Question.{Item, Question, leaf, item}
+use Rattle.definition.specs.Question.{Question, leaf, item}
 use Rattle.definition.specs.Search.{Leaf}
 use Rattle.definition.specs.Call.{leavesOf}
 use Rattle.definition.specs.LeafView.{leafAt, leavesFrom}
 
 -- ---- one field of each entry of a table
 
+pub take-all : (n : ℕ) (xs : List ℕ) → length xs ≤ n → take n xs ≡ xs
+take-all zero [] h = refl
+take-all (suc n) [] h = refl
+take-all zero (x ∷ xs) h = absurd (not-suc-le-zero h)
+take-all (suc n) (x ∷ xs) h = ap (λ (t : List ℕ). x ∷ t) (take-all n xs (le-of-suc-le-suc h))
+
 take-set : (l : List ℕ) (i x : ℕ) → take i (set l i x) ≡ take i l
 take-set [] i x = refl
 take-set (y ∷ l) zero x = refl
 take-set (y ∷ l) (suc i) x = ap (λ (t : List ℕ). y ∷ t) (take-set l i x)
 
-pub filled : {A : Type 0} (f : A → ℕ) (as : List A) (d : A) (l : List ℕ) (i x : ℕ) → i < length as → i < length l → x ≡ f (getD as i d) → take i l ≡ take i (map f as)
-    → take (i + 1) (set l i x) ≡ take (i + 1) (map f as)
-filled f as d l i x h k e w =
+pub filled : {A : Type 0} (f : A → ℕ) (xs : List A) (d : A) (l : List ℕ) (i x : ℕ) → i < length xs → i < length l → x ≡ f (getD xs i d) → take i l ≡ take i (map f xs)
+    → take (i + 1) (set l i x) ≡ take (i + 1) (map f xs)
+filled f xs d l i x h k e w =
     ap (λ (n : ℕ). take n (set l i x)) (add-one i)
     ∙ take-suc (set l i x) i (f d) (omega (arith, length-set l i x))
-    ∙ ap₂ (λ (t : List ℕ) (y : ℕ). t ++ (y ∷ [])) (take-set l i x ∙ w) (getD-set-same l i x (f d) k ∙ e ∙ sym (List·getD-map f as i d))
-    ∙ sym (take-suc (map f as) i (f d) (omega (arith, length-map as f)))
-    ∙ ap (λ (n : ℕ). take n (map f as)) (sym (add-one i))
+    ∙ ap₂ (λ (t : List ℕ) (y : ℕ). t ++ (y ∷ [])) (take-set l i x ∙ w) (getD-set-same l i x (f d) k ∙ e ∙ sym (List·getD-map f xs i d))
+    ∙ sym (take-suc (map f xs) i (f d) (omega (arith, length-map xs f)))
+    ∙ ap (λ (n : ℕ). take n (map f xs)) (sym (add-one i))
 
 -- ---- the leaves
 

@@ -1,0 +1,61 @@
+-- From the checks and the run to the whole call. Assumes nothing.
+use mathlib.Core.Path.{_≡_, sym, ap, _∙_}
+use mathlib.Core.List.{List}
+use Prim.Native.Nat.{ℕ, zero, suc, _<_}
+use native.Mathlib.Omega.{arith}
+use Rattle.definition.specs.Sheet.{questionOf}
+use Rattle.definition.specs.Call.{Rooms, Outcome, refusedWith, refusal, inputOf, searched, call}
+use Rattle.sheet.specs.Placing.{positive}
+use Rattle.planner.specs.declared.Refusal.{Refusal}
+use Rattle.planner.specs.declared.Refusal.the-variants.{Sheet, TooManyEdges, StoreTooSmall}
+use Rattle.planner.specs.declared.Question.{Question}
+use Rattle.planner.specs.declared.Checked.{Checked}
+use Rattle.planner.specs.declared.Checked.the-variants as checked
+use Rattle.planner.specs.declared.Answer.the-variants as answer
+use Rattle.planner.specs.Answers.{Reported, reported, reportedOf, refusalNumber, checkedNumber}
+use Rattle.planner.specs.Lent.{Lent, roomsIn, holds}
+
+refusal-positive : (f : Refusal) → 0 < refusalNumber f
+refusal-positive (Sheet f) = positive f
+refusal-positive TooManyEdges = omega arith
+refusal-positive StoreTooSmall = omega arith
+
+module _ (bs : List ℕ) (limit : ℕ) (x : Checked) (h : Lent) (rooms : Rooms) (same : rooms ≡ roomsIn h) (number : checkedNumber x ≡ refusedWith bs rooms) where
+  abbrev o : Outcome
+  o = call bs (roomsIn h) limit
+
+  -- a refusal
+  module _ {f : Refusal} (e : x ≡ checked.Refused f) where
+    refused : refusalNumber f ≡ refusedWith bs (roomsIn h)
+    refused = sym (ap checkedNumber e) ∙ number ∙ ap (refusedWith bs) same
+
+    call-refused : o ≡ refusal (refusalNumber f)
+    unfolding call
+    call-refused = go (refusedWith bs (roomsIn h)) (sym refused)
+      where
+        go : (n : ℕ) → n ≡ refusalNumber f → (elim n [ zero ↦ searched (inputOf (questionOf bs) (roomsIn h) limit) | suc k ↦ refusal (suc k) ]) ≡ refusal (refusalNumber f)
+        go zero z = absurd (omega (arith, refusal-positive f))
+        go (suc k) z = ap refusal z
+
+    pub refused-answer : reportedOf (answer.Refused f) ≡ reported o
+    refused-answer = sym (ap reported call-refused)
+
+    pub refused-lists : h ≡ holds o h
+    refused-lists = sym (ap (λ (y : Outcome). holds y h) call-refused)
+
+  -- an accepted sheet
+  module _ {q : Question} (e : x ≡ checked.Accepted q) where
+    pub call-accepted : refusedWith bs rooms ≡ 0
+    call-accepted = sym number ∙ ap checkedNumber e
+
+    call-searched : searched (inputOf (questionOf bs) rooms limit) ≡ o
+    unfolding call
+    call-searched =
+        ap (λ (r : Rooms). searched (inputOf (questionOf bs) r limit)) same
+        ∙ sym (rw (sym (ap (refusedWith bs) same) ∙ call-accepted, call))
+
+    pub accepted-answer : {r : Reported} → r ≡ reported (searched (inputOf (questionOf bs) rooms limit)) → r ≡ reported o
+    accepted-answer f = f ∙ ap reported call-searched
+
+    pub accepted-lists : {l : Lent} → l ≡ holds (searched (inputOf (questionOf bs) rooms limit)) h → l ≡ holds o h
+    accepted-lists f = f ∙ ap (λ (y : Outcome). holds y h) call-searched

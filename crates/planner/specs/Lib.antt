@@ -1,0 +1,12 @@
+-- Definitions.
+pub mod Answers
+pub mod Lent
+pub mod ReadBack
+pub mod Rules
+-- Laws.
+pub mod AnswerLaws
+pub mod RoomLaws
+pub mod RunLaws
+pub mod CallLaws
+pub mod ReadBackLaws
+pub mod RuleLaws

@@ -1,0 +1,175 @@
+// The planner's call: a sheet's bytes, a visit limit and the lent lists to an answer. Every sheet, list length and limit gets one. The edge
+// lists are eleft to ekind, the plan lists pset to pcost, the memo lists mset and mplan.
+mod checks;
+mod run;
+
+ghost use mathlib.Core.Path.{_≡_};
+ghost use Rattle.definition.specs.Call.{defaultLimit, call};
+ghost use Rattle.planner.specs.Answers.{reported, reportedOf};
+ghost use Rattle.planner.specs.Lent.{lent, roomsIn, holds};
+ghost use Rattle.planner.specs.Rules.{OpenList, KeptPlans, FiniteCosts};
+use search::Ending;
+use sheet::Fault;
+use sheet::Sections;
+
+// Why nothing is searched and nothing written.
+pub enum Refusal {
+    Sheet(Fault),
+    TooManyEdges,
+    StoreTooSmall,
+}
+
+// How the search ended, how many entries were written, and the visits made.
+pub struct Outcome {
+    pub ending: Ending,
+    pub edges: u32,
+    pub plans: u32,
+    pub memo: u32,
+    pub visits: u32,
+}
+
+impl Outcome {
+    // The visit limit where none is stated.
+    pub const VISITS: u32 = 1000000;
+}
+
+pub enum Answer {
+    Refused(Refusal),
+    Ended(Outcome),
+}
+
+// The lengths of the three stores.
+struct Rooms {
+    pub edges: u32,
+    pub plans: u32,
+    pub memo: u32,
+}
+
+impl Rooms {
+    // A store that is longer counts as one of this length.
+    pub const LONGEST: usize = 16777216;
+}
+
+// Where an accepted sheet's tables stand, and how many leaves it has.
+struct Question {
+    pub sections: Sections,
+    pub leaves: u32,
+}
+
+enum Checked {
+    Refused(Refusal),
+    Accepted(Question),
+}
+
+// Plans the joins of a sheet within limit visits.
+pub fn plan(
+    sheet: &[u8],
+    limit: u32,
+    eleft: &mut [u64],
+    eright: &mut [u64],
+    epredicate: &mut [u32],
+    esource: &mut [u32],
+    ekind: &mut [u32],
+    pset: &mut [u64],
+    pleft: &mut [u32],
+    pright: &mut [u32],
+    plead: &mut [u32],
+    pkind: &mut [u32],
+    prows: &mut [f64],
+    pcost: &mut [f64],
+    mset: &mut [u64],
+    mplan: &mut [u32],
+) -> Answer
+    ensures answer { λ r. ⌜ reportedOf r ≡ reported (call (now (sheet .entry)) (roomsIn (lent (now (eleft .entry)) (now (eright .entry)) (now (epredicate .entry)) (now (esource .entry)) (now (ekind .entry)) (now (pset .entry)) (now (pleft .entry)) (now (pright .entry)) (now (plead .entry)) (now (pkind .entry)) (now (prows .entry)) (now (pcost .entry)) (now (mset .entry)) (now (mplan .entry)))) limit) ⌝ }
+    ensures lists { λ r. ⌜ lent (now (eleft .exit)) (now (eright .exit)) (now (epredicate .exit)) (now (esource .exit)) (now (ekind .exit)) (now (pset .exit)) (now (pleft .exit)) (now (pright .exit)) (now (plead .exit)) (now (pkind .exit)) (now (prows .exit)) (now (pcost .exit)) (now (mset .exit)) (now (mplan .exit)) ≡ holds (call (now (sheet .entry)) (roomsIn (lent (now (eleft .entry)) (now (eright .entry)) (now (epredicate .entry)) (now (esource .entry)) (now (ekind .entry)) (now (pset .entry)) (now (pleft .entry)) (now (pright .entry)) (now (plead .entry)) (now (pkind .entry)) (now (prows .entry)) (now (pcost .entry)) (now (mset .entry)) (now (mplan .entry)))) limit) (lent (now (eleft .entry)) (now (eright .entry)) (now (epredicate .entry)) (now (esource .entry)) (now (ekind .entry)) (now (pset .entry)) (now (pleft .entry)) (now (pright .entry)) (now (plead .entry)) (now (pkind .entry)) (now (prows .entry)) (now (pcost .entry)) (now (mset .entry)) (now (mplan .entry))) ⌝ }
+    ensures open { λ r. ⌜ OpenList (now (sheet .entry)) limit (lent (now (eleft .entry)) (now (eright .entry)) (now (epredicate .entry)) (now (esource .entry)) (now (ekind .entry)) (now (pset .entry)) (now (pleft .entry)) (now (pright .entry)) (now (plead .entry)) (now (pkind .entry)) (now (prows .entry)) (now (pcost .entry)) (now (mset .entry)) (now (mplan .entry))) (reportedOf r) (lent (now (eleft .exit)) (now (eright .exit)) (now (epredicate .exit)) (now (esource .exit)) (now (ekind .exit)) (now (pset .exit)) (now (pleft .exit)) (now (pright .exit)) (now (plead .exit)) (now (pkind .exit)) (now (prows .exit)) (now (pcost .exit)) (now (mset .exit)) (now (mplan .exit))) ⌝ }
+    ensures kept { λ r. ⌜ KeptPlans (now (sheet .entry)) limit (lent (now (eleft .entry)) (now (eright .entry)) (now (epredicate .entry)) (now (esource .entry)) (now (ekind .entry)) (now (pset .entry)) (now (pleft .entry)) (now (pright .entry)) (now (plead .entry)) (now (pkind .entry)) (now (prows .entry)) (now (pcost .entry)) (now (mset .entry)) (now (mplan .entry))) (reportedOf r) (lent (now (eleft .exit)) (now (eright .exit)) (now (epredicate .exit)) (now (esource .exit)) (now (ekind .exit)) (now (pset .exit)) (now (pleft .exit)) (now (pright .exit)) (now (plead .exit)) (now (pkind .exit)) (now (prows .exit)) (now (pcost .exit)) (now (mset .exit)) (now (mplan .exit))) ⌝ }
+    ensures finite { λ r. ⌜ FiniteCosts (now (sheet .entry)) (reportedOf r) (lent (now (eleft .exit)) (now (eright .exit)) (now (epredicate .exit)) (now (esource .exit)) (now (ekind .exit)) (now (pset .exit)) (now (pleft .exit)) (now (pright .exit)) (now (plead .exit)) (now (pkind .exit)) (now (prows .exit)) (now (pcost .exit)) (now (mset .exit)) (now (mplan .exit))) ⌝ }
+{
+    let rooms = Rooms {
+        edges: checks::edge_room(
+            eleft.len(),
+            eright.len(),
+            epredicate.len(),
+            esource.len(),
+            ekind.len(),
+        ),
+        plans: checks::plan_room(
+            pset.len(),
+            pleft.len(),
+            pright.len(),
+            plead.len(),
+            pkind.len(),
+            prows.len(),
+            pcost.len(),
+        ),
+        memo: checks::memo_room(mset.len(), mplan.len()),
+    };
+    match checks::check(sheet, rooms) {
+        Checked::Refused(f) => Answer::Refused(f),
+        Checked::Accepted(q) => Answer::Ended(run::run(
+            sheet,
+            q,
+            rooms,
+            limit,
+            eleft,
+            eright,
+            epredicate,
+            esource,
+            ekind,
+            pset,
+            pleft,
+            pright,
+            plead,
+            pkind,
+            prows,
+            pcost,
+            mset,
+            mplan,
+        )),
+    }
+}
+
+// The same within as many visits as are allowed where no limit is stated.
+pub fn plan_default(
+    sheet: &[u8],
+    eleft: &mut [u64],
+    eright: &mut [u64],
+    epredicate: &mut [u32],
+    esource: &mut [u32],
+    ekind: &mut [u32],
+    pset: &mut [u64],
+    pleft: &mut [u32],
+    pright: &mut [u32],
+    plead: &mut [u32],
+    pkind: &mut [u32],
+    prows: &mut [f64],
+    pcost: &mut [f64],
+    mset: &mut [u64],
+    mplan: &mut [u32],
+) -> Answer
+    ensures answer { λ r. ⌜ reportedOf r ≡ reported (call (now (sheet .entry)) (roomsIn (lent (now (eleft .entry)) (now (eright .entry)) (now (epredicate .entry)) (now (esource .entry)) (now (ekind .entry)) (now (pset .entry)) (now (pleft .entry)) (now (pright .entry)) (now (plead .entry)) (now (pkind .entry)) (now (prows .entry)) (now (pcost .entry)) (now (mset .entry)) (now (mplan .entry)))) defaultLimit) ⌝ }
+    ensures lists { λ r. ⌜ lent (now (eleft .exit)) (now (eright .exit)) (now (epredicate .exit)) (now (esource .exit)) (now (ekind .exit)) (now (pset .exit)) (now (pleft .exit)) (now (pright .exit)) (now (plead .exit)) (now (pkind .exit)) (now (prows .exit)) (now (pcost .exit)) (now (mset .exit)) (now (mplan .exit)) ≡ holds (call (now (sheet .entry)) (roomsIn (lent (now (eleft .entry)) (now (eright .entry)) (now (epredicate .entry)) (now (esource .entry)) (now (ekind .entry)) (now (pset .entry)) (now (pleft .entry)) (now (pright .entry)) (now (plead .entry)) (now (pkind .entry)) (now (prows .entry)) (now (pcost .entry)) (now (mset .entry)) (now (mplan .entry)))) defaultLimit) (lent (now (eleft .entry)) (now (eright .entry)) (now (epredicate .entry)) (now (esource .entry)) (now (ekind .entry)) (now (pset .entry)) (now (pleft .entry)) (now (pright .entry)) (now (plead .entry)) (now (pkind .entry)) (now (prows .entry)) (now (pcost .entry)) (now (mset .entry)) (now (mplan .entry))) ⌝ }
+    ensures open { λ r. ⌜ OpenList (now (sheet .entry)) defaultLimit (lent (now (eleft .entry)) (now (eright .entry)) (now (epredicate .entry)) (now (esource .entry)) (now (ekind .entry)) (now (pset .entry)) (now (pleft .entry)) (now (pright .entry)) (now (plead .entry)) (now (pkind .entry)) (now (prows .entry)) (now (pcost .entry)) (now (mset .entry)) (now (mplan .entry))) (reportedOf r) (lent (now (eleft .exit)) (now (eright .exit)) (now (epredicate .exit)) (now (esource .exit)) (now (ekind .exit)) (now (pset .exit)) (now (pleft .exit)) (now (pright .exit)) (now (plead .exit)) (now (pkind .exit)) (now (prows .exit)) (now (pcost .exit)) (now (mset .exit)) (now (mplan .exit))) ⌝ }
+    ensures kept { λ r. ⌜ KeptPlans (now (sheet .entry)) defaultLimit (lent (now (eleft .entry)) (now (eright .entry)) (now (epredicate .entry)) (now (esource .entry)) (now (ekind .entry)) (now (pset .entry)) (now (pleft .entry)) (now (pright .entry)) (now (plead .entry)) (now (pkind .entry)) (now (prows .entry)) (now (pcost .entry)) (now (mset .entry)) (now (mplan .entry))) (reportedOf r) (lent (now (eleft .exit)) (now (eright .exit)) (now (epredicate .exit)) (now (esource .exit)) (now (ekind .exit)) (now (pset .exit)) (now (pleft .exit)) (now (pright .exit)) (now (plead .exit)) (now (pkind .exit)) (now (prows .exit)) (now (pcost .exit)) (now (mset .exit)) (now (mplan .exit))) ⌝ }
+    ensures finite { λ r. ⌜ FiniteCosts (now (sheet .entry)) (reportedOf r) (lent (now (eleft .exit)) (now (eright .exit)) (now (epredicate .exit)) (now (esource .exit)) (now (ekind .exit)) (now (pset .exit)) (now (pleft .exit)) (now (pright .exit)) (now (plead .exit)) (now (pkind .exit)) (now (prows .exit)) (now (pcost .exit)) (now (mset .exit)) (now (mplan .exit))) ⌝ }
+{
+    plan(
+        sheet,
+        Outcome::VISITS,
+        eleft,
+        eright,
+        epredicate,
+        esource,
+        ekind,
+        pset,
+        pleft,
+        pright,
+        plead,
+        pkind,
+        prows,
+        pcost,
+        mset,
+        mplan,
+    )
+}
