@@ -43,9 +43,8 @@ pub struct HypergraphBuilder {
 }
 
 impl HypergraphBuilder {
-    pub const EDGES: usize = 256;
-
-    pub const LEAVES: usize = 64;
+    // How many edges there are places for.
+    pub const EDGES: u64 = 256;
 
     pub fn new() -> Self
         ensures { λ b. ⌜ ((sheet : List ℕ) → buildOf sheet b ≡ emptyBuild) ⌝ }

@@ -36,8 +36,11 @@ module _ (bs : List ℕ) (bytes : Bytes bs) (limit : ℕ) (h : Lent) (r : Report
 pub two-calls : (bs cs : List ℕ) → Bytes bs → Bytes cs → SameOpenBytes bs cs → SelectivitiesFit cs → (limit : ℕ) (h k : Lent) → roomsIn h ≡ roomsIn k → accepted bs (roomsIn h) ≡ true
     → (r s : Reported) (l m : Lent) → r ≡ reported (call bs (roomsIn h) limit) → l ≡ holds (call bs (roomsIn h) limit) h
     → s ≡ reported (call cs (roomsIn k) limit) → m ≡ holds (call cs (roomsIn k) limit) k
-    → openPart (leavesIn bs) (readBack (leavesIn bs) r l) ≡ openPart (leavesIn cs) (readBack (leavesIn cs) s m)
+    → (accepted cs (roomsIn k) ≡ true) × (openPart (leavesIn bs) (readBack (leavesIn bs) r l) ≡ openPart (leavesIn cs) (readBack (leavesIn cs) s m))
 two-calls bs cs b c same fit limit h k rooms a r s l m ra la sa ma =
-    open-list bs b limit h r l ra la a cs c same fit .1
-    ∙ ap (λ (x : Rooms). openPart (leavesIn cs) (call cs x limit)) rooms
-    ∙ ap (openPart (leavesIn cs)) (sym (reads cs c limit k s m sa ma))
+    let rule = open-list bs b limit h r l ra la a cs c same fit in (
+      sym (ap (accepted cs) rooms) ∙ rule .0,
+      rule .1
+          ∙ ap (λ (x : Rooms). openPart (leavesIn cs) (call cs x limit)) rooms
+          ∙ ap (openPart (leavesIn cs)) (sym (reads cs c limit k s m sa ma)),
+    )

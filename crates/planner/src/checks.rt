@@ -3,6 +3,7 @@ use crate::Checked;
 use crate::Question;
 use crate::Refusal;
 use crate::Rooms;
+use hypergraph::HypergraphBuilder;
 use sheet::Sections;
 use sheet::SheetAnswer;
 ghost use mathlib.Core.Path.{_≡_};
@@ -79,7 +80,7 @@ fn check_stores(sheet: &[u8], s: Sections, rooms: Rooms) -> Checked
     ensures accepted { λ r. ⌜ ((q : Question) → r ≡ checked.Checked.Accepted q → (q .sections ≡ s) × (q .leaves ≡ leavesIn (now (sheet .entry)))) ⌝ }
 {
     let edges = hypergraph::edge_count(sheet, s);
-    if 256 < edges {
+    if HypergraphBuilder::EDGES < edges {
         return Checked::Refused(Refusal::TooManyEdges);
     }
     let leaves = sheet::leaf_count(sheet, s);
