@@ -18,7 +18,7 @@ vectors)
     for file in calls.bin checks.bin; do
         cmp "$made/unchanged/$file" "$made/counted/$file"
     done
-    cp "$made/unchanged/calls.bin" "$here/vectors/calls.bin"
+    cp "$made/unchanged/calls.bin" "$here/../crates/call_vectors/stdin"
     cp "$made/unchanged/checks.bin" "$here/../crates/sheet_vectors/stdin"
     ;;
 survey | plan)

@@ -1,16 +1,16 @@
 use Rattle.sheet_vectors.proofs.replay.Statement.{statement}
 use Rattle.sheet_vectors.proofs.replay.Tie as tie
+use borrow.Author.Needs.{needs}
 use mathlib.Core.Path.{_≡_}
 use Prim.Native.Nat.{_-_, _≤_}
 use lib.ListN.{length}
-use borrow.Author.Needs.{needs}
 
 -- no more agree than were read, and the buffer keeps its length
 abbrev Inv-loop : tie.InvT-loop
-Inv-loop buf₀ t₀ t5 buf t = (t .agree ≤ t .records) × (length buf ≡ length buf₀)
+Inv-loop buf₀ t₀ buf t = (t .agree ≤ t .records) × (length buf ≡ length buf₀)
 
 abbrev μ-loop : tie.MeasureT-loop
-μ-loop buf₀ t₀ t5 buf t = 1000000 - t .records
+μ-loop buf₀ t₀ buf t = 1000000 - t .records
 
 loop-holds : tie.Need-loop-holds Inv-loop μ-loop
 loop-holds c = search needs
@@ -18,8 +18,17 @@ loop-holds c = search needs
 next-record-requires : tie.Need-next-record-requires Inv-loop μ-loop
 next-record-requires c κs = search needs
 
-enum-known-expected : tie.Need-enum-known-expected Inv-loop μ-loop
-enum-known-expected c = search needs
+same-length : tie.Need-same-length Inv-loop μ-loop
+same-length c = search needs
+
+returns : tie.Need-returns Inv-loop μ-loop
+returns c = search needs
+
+slice-reshare-prefix-counted : tie.Need-slice-reshare-prefix-counted Inv-loop μ-loop
+slice-reshare-prefix-counted c = search needs
+
+slice-aggregate-counted : tie.Need-slice-aggregate-counted Inv-loop μ-loop
+slice-aggregate-counted c = search needs
 
 counted-requires : tie.Need-counted-requires Inv-loop μ-loop
 counted-requires c κs = search needs
@@ -30,35 +39,11 @@ loop-less c = search needs
 loop-again : tie.Need-loop-again Inv-loop μ-loop
 loop-again c = search needs
 
-enum-told : tie.Need-enum-told Inv-loop μ-loop
-enum-told c = search needs
-
-same-length : tie.Need-same-length Inv-loop μ-loop
-same-length c = search needs
-
-returns : tie.Need-returns Inv-loop μ-loop
-returns c = search needs
-
-enum-told-2 : tie.Need-enum-told-2 Inv-loop μ-loop
-enum-told-2 c = search needs
-
-slice-aggregate-write-all : tie.Need-slice-aggregate-write-all Inv-loop μ-loop
-slice-aggregate-write-all c = search needs
-
-write-all-requires : tie.Need-write-all-requires Inv-loop μ-loop
-write-all-requires c κs = search needs
-
 same-length-2 : tie.Need-same-length-2 Inv-loop μ-loop
 same-length-2 c = search needs
 
 returns-2 : tie.Need-returns-2 Inv-loop μ-loop
 returns-2 c = search needs
-
-same-length-3 : tie.Need-same-length-3 Inv-loop μ-loop
-same-length-3 c = search needs
-
-returns-3 : tie.Need-returns-3 Inv-loop μ-loop
-returns-3 c = search needs
 
 pub replay-spec : {M : Type 1} → statement M
 replay-spec =
@@ -68,17 +53,12 @@ replay-spec =
     μ-loop
     loop-holds
     next-record-requires
-    enum-known-expected
+    same-length
+    returns
+    slice-reshare-prefix-counted
+    slice-aggregate-counted
     counted-requires
     loop-less
     loop-again
-    enum-told
-    same-length
-    returns
-    enum-told-2
-    slice-aggregate-write-all
-    write-all-requires
     same-length-2
-    returns-2
-    same-length-3
-    returns-3)
+    returns-2)

@@ -1,5 +1,5 @@
-use Rattle.sheet_vectors.proofs.skip_line.Statement.{statement}
-use Rattle.sheet_vectors.proofs.skip_line.Tie as tie
+use Rattle.records.proofs.skip_line.Statement.{statement}
+use Rattle.records.proofs.skip_line.Tie as tie
 use borrow.Author.Needs.{needs}
 
 abbrev Inv-loop : tie.InvT-loop

@@ -1,0 +1,68 @@
+use Rattle.call_vectors.proofs.replay.Statement.{statement}
+use Rattle.call_vectors.proofs.replay.Tie as tie
+use borrow.Author.Needs.{needs}
+use mathlib.Core.Path.{_≡_}
+use Prim.Native.Nat.{_-_, _*_, _≤_}
+use lib.ListN.{length}
+
+-- each count is within what the records allow, and the buffer keeps its length
+abbrev Inv-loop : tie.InvT-loop
+Inv-loop buf₀ t₀ buf t = (t .edges ≤ 256 * t .records) × (t .plans ≤ 1088 * t .records) × (t .memo ≤ 512 * t .records) × (t .agree ≤ t .records) × (length buf ≡ length buf₀)
+
+abbrev μ-loop : tie.MeasureT-loop
+μ-loop buf₀ t₀ buf t = 1000000 - t .records
+
+loop-holds : tie.Need-loop-holds Inv-loop μ-loop
+loop-holds c = search needs
+
+next-record-requires : tie.Need-next-record-requires Inv-loop μ-loop
+next-record-requires c κs = search needs
+
+same-length : tie.Need-same-length Inv-loop μ-loop
+same-length c = search needs
+
+returns : tie.Need-returns Inv-loop μ-loop
+returns c = search needs
+
+slice-reshare-prefix-tally-of : tie.Need-slice-reshare-prefix-tally-of Inv-loop μ-loop
+slice-reshare-prefix-tally-of c = search needs
+
+slice-aggregate-tally-of : tie.Need-slice-aggregate-tally-of Inv-loop μ-loop
+slice-aggregate-tally-of c = search needs
+
+tally-of-requires : tie.Need-tally-of-requires Inv-loop μ-loop
+tally-of-requires c κs = search needs
+
+sum-requires : tie.Need-sum-requires Inv-loop μ-loop
+sum-requires c κs = search needs
+
+loop-less : tie.Need-loop-less Inv-loop μ-loop
+loop-less c = search needs
+
+loop-again : tie.Need-loop-again Inv-loop μ-loop
+loop-again c = search needs
+
+same-length-2 : tie.Need-same-length-2 Inv-loop μ-loop
+same-length-2 c = search needs
+
+returns-2 : tie.Need-returns-2 Inv-loop μ-loop
+returns-2 c = search needs
+
+pub replay-spec : {M : Type 1} → statement M
+replay-spec =
+    tie.close
+    (tie.spec
+    Inv-loop
+    μ-loop
+    loop-holds
+    next-record-requires
+    same-length
+    returns
+    slice-reshare-prefix-tally-of
+    slice-aggregate-tally-of
+    tally-of-requires
+    sum-requires
+    loop-less
+    loop-again
+    same-length-2
+    returns-2)
