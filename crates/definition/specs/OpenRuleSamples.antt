@@ -12,7 +12,7 @@ use borrow.Author.Tests.{ltb-true}
 use Rattle.definition.specs.Lists.{concatMap}
 use Rattle.definition.specs.Sheet.{Bytes, questionOf}
 use Rattle.definition.specs.Call.{defaultLimit, accepted, inputOf, call}
-use Rattle.definition.specs.PlanRule.{WellKept, pairsIn}
+use Rattle.definition.specs.PlanRule.{WellKept}
 use Rattle.definition.specs.OpenRule.{OpenPart, openPart, Confidential, in-rows, in-selectivity, SameOpenBytes, SelectivitiesFit}
 use Rattle.definition.specs.OpenRuleLaws.{open-list-rule}
 use Rattle.definition.specs.PlanRuleLaws.{plan-rule}
@@ -97,7 +97,7 @@ rule-A = open-list-rule bytesA (all-bytes bytesA refl) ample defaultLimit refl o
 abbrev KeptForAll : List ℕ → ℕ → Type 0
 KeptForAll bs p =
     let o = call bs ample defaultLimit in
-    WellKept (inputOf (questionOf bs) ample defaultLimit) (pairsIn 3 (o .plans)) (o .plans) 7 p
+    WellKept (inputOf (questionOf bs) ample defaultLimit) (o .tried) (o .plans) 7 p
 
 pub kept-A : KeptForAll bytesA 5 × KeptForAll otherBytes 6
 unfolding computed

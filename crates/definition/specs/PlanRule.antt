@@ -12,7 +12,7 @@ use Rattle.definition.specs.EstimateBounds.{AtMost, Selectivities}
 use Rattle.definition.specs.Hypergraph.{Sided}
 use Rattle.definition.specs.Search.{Leaf, Plan, Entry, Pair, Input}
 use Rattle.definition.specs.Sheet.{questionOf}
-use Rattle.definition.specs.Call.{Rooms, Outcome, leavesIn, inputOf}
+use Rattle.definition.specs.Call.{Rooms, Outcome, inputOf, call}
 use Rattle.definition.specs.Kept.{planOf, estimateOf, union, madeFor, Several, KeptAfter, Candidates, JoinsOnce, EdgeAtEachJoin}
 
 -- what the search may be given: as many leaves, rows, columns and selectivities as document 01 and request 2026-10 allow, and edges with two sides
@@ -72,9 +72,10 @@ pairsIn n ps = map (pairIn ps) (drop n ps)
 
 -- ---- for a call
 
--- the plan rule for what a call on an accepted sheet leaves in the stores: "Whichever answer ends the search"
+-- the plan rule for what a call on an accepted sheet leaves in the stores: "Whichever answer ends the search". The trials are those of the
+-- definition's call
 abbrev pub CallPlanRule : List ℕ → Rooms → ℕ → Outcome → Type 0
-CallPlanRule bs rooms limit o = PlanRule (inputOf (questionOf bs) rooms limit) (pairsIn (leavesIn bs) (o .plans)) (o .plans) (o .memo)
+CallPlanRule bs rooms limit o = PlanRule (inputOf (questionOf bs) rooms limit) (call bs rooms limit .tried) (o .plans) (o .memo)
 
 -- "All costs are finite and not negative": of all that is written, whatever the answer
 abbrev pub AllFinite : Outcome → Type 0

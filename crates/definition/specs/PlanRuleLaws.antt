@@ -1,6 +1,6 @@
 -- The plan rule for the whole call, from the sheet's bytes; and that every row count and cost written is finite and not negative, whatever the
 -- answer. Assumes nothing.
-use mathlib.Core.Path.{_≡_, refl, sym, ap, _∙_, subst}
+use mathlib.Core.Path.{_≡_, refl, sym, ap, _∙_}
 use mathlib.Core.Bool.{true}
 use mathlib.Core.List.{List, [], map}
 use Prim.Native.Nat.{ℕ, zero, suc, zero-le}
@@ -11,9 +11,9 @@ use borrow.Author.Tests.{eqb-true}
 use Rattle.definition.specs.Sheet.{Bytes, questionOf, sheetAnswer}
 use Rattle.definition.specs.Accepted.{AcceptedSheet}
 use Rattle.definition.specs.SheetLaws.{accepted as sheet-accepted}
-use Rattle.definition.specs.Search.{Pair, Input}
+use Rattle.definition.specs.Search.{Input}
 use Rattle.definition.specs.Call.{Rooms, Outcome, refusedWith, accepted, refusal, leavesIn, inputOf, searched, call}
-use Rattle.definition.specs.PlanRule.{WithinLimits, PlanRule, pairIn, pairsIn, CallPlanRule, AllFinite}
+use Rattle.definition.specs.PlanRule.{WithinLimits, pairIn, pairsIn, CallPlanRule, AllFinite}
 use Rattle.definition.specs.InputLaws.{leaves-counted, accepted-limits}
 use Rattle.definition.specs.KeptSearch.{searched-rule, searched-pairs}
 
@@ -70,6 +70,4 @@ module _ (bs : List ℕ) (bytes : Bytes bs) (rooms : Rooms) (limit : ℕ) where
   -- ---- the plan rule
 
   pub plan-rule : accepted bs rooms ≡ true → CallPlanRule bs rooms limit (call bs rooms limit)
-  plan-rule a =
-      subst (λ (ts : List Pair). PlanRule input ts (call bs rooms limit .plans) (call bs rooms limit .memo)) call-pairs
-      (rw (call-searched bs rooms a limit) (searched-rule input (call-limits bs rooms a bytes limit)))
+  plan-rule a = rw (call-searched bs rooms a limit) (searched-rule input (call-limits bs rooms a bytes limit))
