@@ -55,11 +55,13 @@ pub record Finite (q : Plan) : Type 0 where
   pub cost : NonNegative (q .estimate .cost)
 
 -- the plan rule: "for each set of two or more leaves that has a plan, the one the memo keeps", and "each costed on the two plans kept when it
--- was tried" (`candidates`)
+-- was tried" (`candidates`). `whole`: every plan, kept or not, joins every leaf of the set it names once; so the sets between which
+-- `EdgeAtEachJoin` asks for an edge are those of the leaves met
 pub record PlanRule (i : Input) (ts : List Pair) (ps : List Plan) (m : List Entry) : Type 0 where
   pub candidates : Candidates i ts ps
   pub memo : MemoHolds (length (i .leaves)) ts ps m
   pub kept : (x : ℕ) → x < length m → Several (entryOf m x .set) → WellKept i ts ps (entryOf m x .set) (entryOf m x .plan)
+  pub whole : (p : ℕ) → p < length ps → JoinsOnce (length (i .leaves)) ps (planOf ps p .set) p
   pub finite : (p : ℕ) → p < length ps → Finite (planOf ps p)
 
 -- a candidate's pair, read back from the plans: the sets of the two plans that its fields name
