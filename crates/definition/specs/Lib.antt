@@ -43,6 +43,7 @@ pub mod EdgeWalkLaws
 pub mod EstimateOrderLaws
 pub mod EstimateBoundsLaws
 pub mod WalkLaws
+pub mod StopLaws
 pub mod Depth
 pub mod MemoLaws
 pub mod OpenSearch
@@ -55,6 +56,7 @@ pub mod EdgeLaws
 pub mod EdgeCount
 pub mod InputLaws
 pub mod PlanRuleLaws
+pub mod AnswerLaws
 pub mod OpenSheetLaws
 pub mod OpenRuleLaws
 pub mod RecordSetLaws
