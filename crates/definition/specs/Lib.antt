@@ -28,6 +28,7 @@ pub mod CandidateOrder
 pub mod CandidateSamples
 pub mod CostSamples
 pub mod DocumentSamples
+pub mod KeptSamples
 pub mod PlanRuleSamples
 pub mod OpenRuleSamples
 pub mod TriedListSamples
