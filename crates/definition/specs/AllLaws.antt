@@ -3,14 +3,23 @@ use mathlib.Core.List.{List, [], _∷_, _++_, map}
 use Prim.Native.Nat.{ℕ, suc, _<_, zero-le, suc-le-suc}
 use lib.ListN.{length, getD}
 use Rattle.nodeset.specs.SubsetLaws.{All}
+use Rattle.definition.specs.Lists.{concatMap}
 
 pub all-map : {A : Type 0} {P Q : A → Type 0} → ((x : A) → P x → Q x) → (xs : List A) → All P xs → All Q xs
 all-map f [] a = tt
 all-map f (x ∷ xs) a = (f x (a .0), all-map f xs (a .1))
 
+pub all-both : {A : Type 0} (P : A → Type 0) (xs ys : List A) → All P xs → All P ys → All P (xs ++ ys)
+all-both P [] ys a b = b
+all-both P (x ∷ xs) ys a b = (a .0, all-both P xs ys (a .1) b)
+
 pub all-append : {A : Type 0} (P : A → Type 0) (xs : List A) (x : A) → All P xs → P x → All P (xs ++ (x ∷ []))
-all-append P [] x a p = (p, tt)
-all-append P (y ∷ xs) x a p = (a .0, all-append P xs x (a .1) p)
+all-append P xs x a p = all-both P xs (x ∷ []) a (p, tt)
+
+pub all-concat : {A B : Type 0} (P : B → Type 0) (f : A → List B) → ((x : A) → All P (f x)) → (xs : List A) → All P (concatMap f xs)
+unfolding concatMap
+all-concat P f h [] = tt
+all-concat P f h (x ∷ xs) = all-both P (f x) (concatMap f xs) (h x) (all-concat P f h xs)
 
 -- by the members' numbers
 pub all-of : {A : Type 0} (P : A → Type 0) (d : A) (xs : List A) → ((i : ℕ) → i < length xs → P (getD xs i d)) → All P xs

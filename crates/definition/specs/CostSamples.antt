@@ -12,7 +12,7 @@ use lib.Ieee.{Float, fin, mul, add, div, lt, ofInt}
 use Rattle.definition.specs.Hypergraph.{Edge, none32, connectingFrom, anyPredicate, selectivitiesOf}
 use Rattle.definition.specs.Cost.{Estimate, whole, filtered, capped, candidateCost, candidateFrom}
 use Rattle.definition.specs.Connection.{connection}
-use Rattle.definition.specs.EstimateOrder.{kept}
+use Rattle.definition.specs.EstimateOrderLaws.{kept}
 use Rattle.definition.specs.EstimateBounds.{JoinTree, scan, join, treeEstimate}
 
 -- three leaves in a row, s between the first two and t between the last two: the candidates in document 01's order

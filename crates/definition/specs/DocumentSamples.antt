@@ -189,10 +189,18 @@ starredRows =
     (pair 2 4 ∷ pair 1 2 ∷ pair 1 6 ∷ pair 3 4 ∷ [])
     ∷ []
 
--- stores and limits met, and points of edge building and search that the starred sheets leave open
+-- stores too small, stores and limits met, and points of edge building and search that the starred sheets leave open
 abbrev furtherRows : List Row
 furtherRows =
-    row sheetA ample 0 14 0 none32
+    row sheetA (rooms 1 1088 512) defaultLimit 11 0 none32 [] [] [] []
+    ∷ row sheetA (rooms 256 2 512) defaultLimit 11 0 none32 [] [] [] []
+    ∷ row sheetA (rooms 256 1088 2) defaultLimit 11 0 none32 [] [] [] []
+    ∷ row sheetA (rooms 2 3 3) defaultLimit 12 0 none32
+    (edge 1 2 0 2 0 ∷ edge 2 4 1 4 0 ∷ [])
+    (scan 0 4 4 ∷ scan 1 8 16 ∷ scan 2 16 16 ∷ [])
+    (entry 1 0 ∷ entry 2 1 ∷ entry 4 2 ∷ [])
+    ([])
+    ∷ row sheetA ample 0 14 0 none32
     (edge 1 2 0 2 0 ∷ edge 2 4 1 4 0 ∷ [])
     (scan 0 4 4 ∷ scan 1 8 16 ∷ scan 2 16 16 ∷ join 6 1 2 1 0 32 192 ∷ [])
     (entry 1 0 ∷ entry 2 1 ∷ entry 4 2 ∷ entry 6 3 ∷ [])

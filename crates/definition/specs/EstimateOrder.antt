@@ -1,11 +1,10 @@
 -- What it is for one cost to be at least another, and for a plan to be "the earliest of the least costly". Definitions only.
 use mathlib.Core.Path.{_≡_}
 use mathlib.Core.Bool.{Bool, true, false}
-use mathlib.Core.Option.{Option, none, some}
-use Prim.Native.Nat.{ℕ, zero, suc, _*_, _≤_, _<_}
+use Prim.Native.Nat.{ℕ, _*_, _≤_, _<_}
 use lib.Ieee.{Float, nan, inf, fin}
 use lib.Ieee.Positive.{num, den}
-use Rattle.definition.specs.Cost.{Estimate, cheaper}
+use Rattle.definition.specs.Cost.{Estimate}
 
 -- "All costs are finite and not negative."
 abbrev pub NonNegative : Float → Type 0
@@ -13,7 +12,8 @@ NonNegative nan = ⊥
 NonNegative (inf s) = ⊥
 NonNegative (fin s m e) = s ≡ false
 
--- as numbers: a finite x that is not negative is the fraction num x / den x
+-- as numbers: a finite x that is not negative is the fraction num x / den x. Both are used of such numbers only, which `PlanRule`'s field
+-- `finite` says of every plan's cost
 abbrev pub AtLeast : Float → Float → Type 0
 AtLeast x y = num y * den x ≤ num x * den y
 
@@ -34,14 +34,3 @@ pub record Earliest (candidate : ℕ → Estimate) (selected : ℕ → Bool) (n 
   pub chosen : selected at ≡ true
   pub least : (i : ℕ) → i < n → selected i ≡ true → AtLeast (candidate i .cost) (candidate at .cost)
   pub earliest : (i : ℕ) → i < at → selected i ≡ true → MoreThan (candidate i .cost) (candidate at .cost)
-
--- "A trial replaces the memo's plan only if strictly cheaper." The first is kept as it comes; candidate n, over what was kept before it
-abbrev pub keptAfter : (ℕ → Estimate) → Option ℕ → ℕ → ℕ
-keptAfter candidate none n = n
-keptAfter candidate (some m) n = elim (cheaper (candidate n) (candidate m)) [ true ↦ n | false ↦ m ]
-
--- the candidate kept after the first n
-unfoldable pub kept : (ℕ → Estimate) → (ℕ → Bool) → ℕ → Option ℕ
-kept candidate selected zero = none
-kept candidate selected (suc n) =
-    elim (selected n) [ true ↦ some (keptAfter candidate (kept candidate selected n) n) | false ↦ kept candidate selected n ]

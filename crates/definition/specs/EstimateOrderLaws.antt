@@ -11,7 +11,7 @@ use lib.Ieee.Positive.{num, den, den-pos, through}
 use borrow.Author.Tests.{lt-ltb, le-ltb, ltb-true, ltb-false}
 use Rattle.definition.specs.FloatLaws.{lt-is}
 use Rattle.definition.specs.Cost.{Estimate, cheaper}
-use Rattle.definition.specs.EstimateOrder.{NonNegative, AtLeast, MoreThan, StrictWeakOrder, Earliest, keptAfter, kept}
+use Rattle.definition.specs.EstimateOrder.{NonNegative, AtLeast, MoreThan, StrictWeakOrder, Earliest}
 
 -- ---- the orders of numbers
 
@@ -135,6 +135,17 @@ earliest-same f g s t n at e d b =
     }
 
 -- ---- the fold
+
+-- "A trial replaces the memo's plan only if strictly cheaper." The first is kept as it comes; candidate n, over what was kept before it
+abbrev keptAfter : (ℕ → Estimate) → Option ℕ → ℕ → ℕ
+keptAfter candidate none n = n
+keptAfter candidate (some m) n = elim (cheaper (candidate n) (candidate m)) [ true ↦ n | false ↦ m ]
+
+-- the candidate kept after the first n
+unfoldable pub kept : (ℕ → Estimate) → (ℕ → Bool) → ℕ → Option ℕ
+kept candidate selected zero = none
+kept candidate selected (suc n) =
+    elim (selected n) [ true ↦ some (keptAfter candidate (kept candidate selected n) n) | false ↦ kept candidate selected n ]
 
 -- what is kept is the earliest of the least costly; where nothing is, none is selected
 abbrev pub KeepsEarliest : (ℕ → Estimate) → (ℕ → Bool) → ℕ → Option ℕ → Type 0

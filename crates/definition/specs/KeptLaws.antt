@@ -20,8 +20,7 @@ use Rattle.nodeset.specs.Sets.{bit, singleton}
 use Rattle.nodeset.specs.SetLaws.{Apart, bit-lt, bit-or, bit-one, bit-one-other, bit-one-cases, bit-empty, singleton-is, singleton-none}
 use Rattle.nodeset.specs.SubsetLaws.{All}
 use Rattle.definition.specs.Hypergraph.{Edge, connects, connectingFrom}
-use Rattle.definition.specs.EstimateOrder.{kept}
-use Rattle.definition.specs.EstimateOrderLaws.{earliest-unique, KeepsEarliest, kept-earliest}
+use Rattle.definition.specs.EstimateOrderLaws.{kept, earliest-unique, KeepsEarliest, kept-earliest}
 use Rattle.definition.specs.EstimateBounds.{Bounded}
 use Rattle.definition.specs.EstimateBoundsLaws.{leaf-bounded, candidate-bounded, selectivities-of}
 use Rattle.definition.specs.Depth.{ones-or}

@@ -236,6 +236,7 @@ module _ (i : Input) (limits : WithinLimits i) where
           candidates = v .candidates;
           memo = memo-holds;
           kept = λ x h s. well _ _ s (memo-holds .kept x h);
+          whole = joins-once i (st .tried) (st .plans) (v .candidates) (limits .count);
           finite = all-finite i (st .tried) (st .plans) (v .candidates) limits;
         }
       where

@@ -28,6 +28,7 @@ pub mod CandidateOrder
 pub mod CandidateSamples
 pub mod CostSamples
 pub mod DocumentSamples
+pub mod KeptSamples
 pub mod PlanRuleSamples
 pub mod OpenRuleSamples
 pub mod TriedListSamples
@@ -43,6 +44,7 @@ pub mod EdgeWalkLaws
 pub mod EstimateOrderLaws
 pub mod EstimateBoundsLaws
 pub mod WalkLaws
+pub mod StopLaws
 pub mod Depth
 pub mod MemoLaws
 pub mod OpenSearch
@@ -55,6 +57,7 @@ pub mod EdgeLaws
 pub mod EdgeCount
 pub mod InputLaws
 pub mod PlanRuleLaws
+pub mod AnswerLaws
 pub mod OpenSheetLaws
 pub mod OpenRuleLaws
 pub mod RecordSetLaws

@@ -12,7 +12,7 @@ use Rattle.definition.specs.EstimateBounds.{AtMost, Selectivities}
 use Rattle.definition.specs.Hypergraph.{Sided}
 use Rattle.definition.specs.Search.{Leaf, Plan, Entry, Pair, Input}
 use Rattle.definition.specs.Sheet.{questionOf}
-use Rattle.definition.specs.Call.{Rooms, Outcome, leavesIn, inputOf}
+use Rattle.definition.specs.Call.{Rooms, Outcome, inputOf, call}
 use Rattle.definition.specs.Kept.{planOf, estimateOf, union, madeFor, Several, KeptAfter, Candidates, JoinsOnce, EdgeAtEachJoin}
 
 -- what the search may be given: as many leaves, rows, columns and selectivities as document 01 and request 2026-10 allow, and edges with two sides
@@ -55,11 +55,13 @@ pub record Finite (q : Plan) : Type 0 where
   pub cost : NonNegative (q .estimate .cost)
 
 -- the plan rule: "for each set of two or more leaves that has a plan, the one the memo keeps", and "each costed on the two plans kept when it
--- was tried" (`candidates`)
+-- was tried" (`candidates`). `whole`: every plan, kept or not, joins every leaf of the set it names once; so the sets between which
+-- `EdgeAtEachJoin` asks for an edge are those of the leaves met
 pub record PlanRule (i : Input) (ts : List Pair) (ps : List Plan) (m : List Entry) : Type 0 where
   pub candidates : Candidates i ts ps
   pub memo : MemoHolds (length (i .leaves)) ts ps m
   pub kept : (x : ℕ) → x < length m → Several (entryOf m x .set) → WellKept i ts ps (entryOf m x .set) (entryOf m x .plan)
+  pub whole : (p : ℕ) → p < length ps → JoinsOnce (length (i .leaves)) ps (planOf ps p .set) p
   pub finite : (p : ℕ) → p < length ps → Finite (planOf ps p)
 
 -- a candidate's pair, read back from the plans: the sets of the two plans that its fields name
@@ -72,9 +74,10 @@ pairsIn n ps = map (pairIn ps) (drop n ps)
 
 -- ---- for a call
 
--- the plan rule for what a call on an accepted sheet leaves in the stores: "Whichever answer ends the search"
+-- the plan rule for what a call on an accepted sheet leaves in the stores: "Whichever answer ends the search". The trials are those of the
+-- definition's call
 abbrev pub CallPlanRule : List ℕ → Rooms → ℕ → Outcome → Type 0
-CallPlanRule bs rooms limit o = PlanRule (inputOf (questionOf bs) rooms limit) (pairsIn (leavesIn bs) (o .plans)) (o .plans) (o .memo)
+CallPlanRule bs rooms limit o = PlanRule (inputOf (questionOf bs) rooms limit) (call bs rooms limit .tried) (o .plans) (o .memo)
 
 -- "All costs are finite and not negative": of all that is written, whatever the answer
 abbrev pub AllFinite : Outcome → Type 0

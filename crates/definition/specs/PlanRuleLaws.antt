@@ -4,18 +4,20 @@ use mathlib.Core.Path.{_≡_, refl, sym, ap, _∙_, subst}
 use mathlib.Core.Bool.{true}
 use mathlib.Core.List.{List, [], map}
 use Prim.Native.Nat.{ℕ, zero, suc, zero-le}
-use native.Mathlib.Nat.{not-suc-le-zero}
-use lib.ListN.{drop-of-length-le}
+use native.Mathlib.Nat.{not-suc-le-zero, suc-ne-zero}
+use lib.ListN.{length, drop-of-length-le}
 use lib.Dec.{eqb}
 use borrow.Author.Tests.{eqb-true}
+use Rattle.nodeset.specs.Sets.{allBelow}
 use Rattle.definition.specs.Sheet.{Bytes, questionOf, sheetAnswer}
 use Rattle.definition.specs.Accepted.{AcceptedSheet}
 use Rattle.definition.specs.SheetLaws.{accepted as sheet-accepted}
-use Rattle.definition.specs.Search.{Pair, Input}
+use Rattle.definition.specs.Search.{Input}
 use Rattle.definition.specs.Call.{Rooms, Outcome, refusedWith, accepted, refusal, leavesIn, inputOf, searched, call}
-use Rattle.definition.specs.PlanRule.{WithinLimits, PlanRule, pairIn, pairsIn, CallPlanRule, AllFinite}
+use Rattle.definition.specs.Kept.{KeptAfter}
+use Rattle.definition.specs.PlanRule.{WithinLimits, pairIn, pairsIn, CallPlanRule, AllFinite}
 use Rattle.definition.specs.InputLaws.{leaves-counted, accepted-limits}
-use Rattle.definition.specs.KeptSearch.{searched-rule, searched-pairs}
+use Rattle.definition.specs.KeptSearch.{searched-rule, searched-pairs, chosen-kept}
 
 -- ---- accepted calls
 
@@ -70,6 +72,17 @@ module _ (bs : List ℕ) (bytes : Bytes bs) (rooms : Rooms) (limit : ℕ) where
   -- ---- the plan rule
 
   pub plan-rule : accepted bs rooms ≡ true → CallPlanRule bs rooms limit (call bs rooms limit)
-  plan-rule a =
-      subst (λ (ts : List Pair). PlanRule input ts (call bs rooms limit .plans) (call bs rooms limit .memo)) call-pairs
-      (rw (call-searched bs rooms a limit) (searched-rule input (call-limits bs rooms a bytes limit)))
+  plan-rule a = rw (call-searched bs rooms a limit) (searched-rule input (call-limits bs rooms a bytes limit))
+
+  -- "the chosen plan's number, which is that of the plan kept for the set of all leaves", where the answer is 0
+  pub call-chosen : let o = call bs rooms limit in
+      o .answer ≡ 0 → KeptAfter (leavesIn bs) (o .tried) (o .plans) (length (o .tried)) (allBelow (leavesIn bs)) (o .chosen)
+  unfolding call
+  call-chosen = go (refusedWith bs rooms) refl
+    where
+      Chosen : ℕ → Outcome → Type 0
+      Chosen n o = o .answer ≡ 0 → KeptAfter n (o .tried) (o .plans) (length (o .tried)) (allBelow n) (o .chosen)
+
+      go : (n : ℕ) → refusedWith bs rooms ≡ n → Chosen (leavesIn bs) (elim n [ zero ↦ searched input | suc k ↦ refusal (suc k) ])
+      go zero e = subst (λ (n : ℕ). Chosen n (searched input)) (leaves-counted (questionOf bs .items)) (chosen-kept input (limits e))
+      go (suc n) e = λ h. absurd (suc-ne-zero n h)

@@ -1,6 +1,6 @@
 -- The plan rule is not empty: at the starred sheets A and its tie candidates are made, the theorem says which plan is kept for all three
 -- leaves and what it joins, and a costlier plan, a later one of equal cost or a pair with a shared leaf does not meet the definitions.
-use mathlib.Core.Path.{_≡_, refl}
+use mathlib.Core.Path.{_≡_, refl, subst}
 use mathlib.Core.List.{List, [], _∷_}
 use Prim.Native.Nat.{ℕ, _^_, _<_, _≤_}
 use native.Mathlib.Omega.{arith}
@@ -16,7 +16,7 @@ use Rattle.definition.specs.Cost.{filtered, candidateFrom}
 use Rattle.definition.specs.Walk.{enumerateCmpRec, emitCsg, enumerateCsgRec, solveFrom}
 use Rattle.definition.specs.WalkLaws.{Sided}
 use Rattle.definition.specs.Search.{Leaf, Plan, Entry, Pair, Input, State, find, replace, visit, candidateKind, candidate, noted, joined, attempt, leafPlans, leafEntries, start, search}
-use Rattle.definition.specs.Kept.{planOf, Several, KeptAfter, Qualifies, Meets}
+use Rattle.definition.specs.Kept.{planOf, Several, KeptAfter, Qualifies, Meets, occurs, JoinsOnce}
 use Rattle.definition.specs.PlanRule.{WithinLimits, WellKept, PlanRule}
 use Rattle.definition.specs.KeptLaws.{kept-unique, meets-unique}
 use Rattle.definition.specs.KeptSearch.{search-rule, attempts, attempts-rule}
@@ -102,6 +102,14 @@ meets-A =
 -- what the theorem says is met is what is met
 pub leaves-A : kept-A .leaves .leaves ≡ 0 ∷ 1 ∷ 2 ∷ []
 leaves-A = meets-unique 3 (search sheetA .plans) (kept-A .leaves .met) meets-A
+
+-- plan 3, of leaves 1 and 2, leaves leaf 0 out
+pub left-out-A : JoinsOnce 3 (search sheetA .plans) 7 3 → ⊥
+unfolding run
+left-out-A j =
+    let m : Meets 3 (search sheetA .plans) 3 (1 ∷ 2 ∷ []) = Meets.at-join (lit≤ tt) (lit< tt) (Meets.at-leaf (lit< tt) refl) (Meets.at-leaf (lit< tt) refl) refl in
+    let e : _≡_ {A = ℕ} 0 1 = subst (λ (xs : List ℕ). occurs 0 xs ≡ 1) (meets-unique 3 (search sheetA .plans) (j .met) m) (j .once 0) in
+    omega arith
 
 -- the costlier candidate of the same set, plan 6, is not kept
 pub dearer-A : KeptAfter 3 (search sheetA .tried) (search sheetA .plans) 4 7 6 → ⊥

@@ -11,6 +11,7 @@ use Rattle.definition.specs.Cost.{Estimate, leafEstimate}
 use Rattle.definition.specs.Hypergraph.{none32}
 use Rattle.definition.specs.ListLaws.{length-tabulate, tabulate-at, tabulate-end}
 use Rattle.definition.specs.Search.{Leaf, Input, search, find}
+use Rattle.definition.specs.StopLaws.{search-stop}
 use Rattle.candidate.specs.declared.DPhyp.{DPhyp}
 use Rattle.candidate.specs.Store.{Given, Lists, Store, store, counts, planFor, leafWritten}
 use Rattle.candidate.specs.Held.{inputFor, holding}
@@ -21,7 +22,7 @@ use Rattle.dphyp.specs.Walks.{storeSolve}
 use Rattle.search.specs.declared.Ending.{Ending}
 use Rattle.definition.specs.LeafView.{leafAt, leavesFrom}
 use Rattle.search.specs.View.{Ready, Ends, endingNumber, chosenOf, endingOf}
-use Rattle.search.specs.EndingLaws.{search-stop, ending-is}
+use Rattle.search.specs.EndingLaws.{ending-is}
 
 module _ (n : ℕ) (rows columns : List ℕ) where
   pub leaves-length : length (leavesFrom n rows columns) ≡ n
