@@ -21,11 +21,21 @@ vectors)
     cp "$made/unchanged/calls.bin" "$here/../crates/call_vectors/stdin"
     cp "$made/unchanged/checks.bin" "$here/../crates/sheet_vectors/stdin"
     ;;
+replay)
+    seed=${2:-$(date +%s)}
+    made="$here/target/fresh"
+    "$here/target/oracle" fresh "$made/unchanged" "$seed"
+    # The counted copy writes the same, and holds the visits in it to its own.
+    "$here/target/oracle-counted" fresh "$made/counted" "$seed" >/dev/null
+    cmp "$made/unchanged/calls.bin" "$made/counted/calls.bin"
+    "$here/../target/bin/call_vectors" <"$made/unchanged/calls.bin" | awk '
+        { print } $NF != "agree" || $1 != $(NF - 2) { differs = 1 } END { exit differs }'
+    ;;
 survey | plan)
     "$here/target/oracle" "$@"
     ;;
 *)
-    echo "usage: run.sh compare | survey | vectors | plan [word...]" >&2
+    echo "usage: run.sh compare | survey | vectors | replay [seed] | plan [word...]" >&2
     exit 2
     ;;
 esac

@@ -45,8 +45,11 @@ fn main() -> Result<ExitCode, Box<dyn Error>> {
         Some((command, [folder])) if command == "vectors" => {
             vectors::write_vectors(Path::new(folder))?;
         }
+        Some((command, [folder, seed])) if command == "fresh" => {
+            vectors::write_fresh(Path::new(folder), seed.parse()?)?;
+        }
         Some((command, words)) if command == "plan" => plan::print_plan(&sheet_bytes(words)?),
-        _ => return Err("usage: oracle compare | survey | vectors FOLDER | plan [WORD...]".into()),
+        _ => return Err("usage: oracle compare | survey | vectors FOLDER | fresh FOLDER SEED | plan [WORD...]".into()),
     }
     Ok(ExitCode::SUCCESS)
 }

@@ -26,6 +26,9 @@ const SMALL_SHEETS: usize = 48;
 const MIDDLE_SHEETS: usize = 72;
 const WIDE_SHEETS: usize = 8;
 const DAMAGED_SHEETS: usize = 240;
+/// Fresh calls: sheets of at most 7 leaves, and of at most 12.
+const FRESH_SHEETS: usize = 3_000;
+const FRESH_WIDE_SHEETS: usize = 200;
 
 /// One record: words of 4 and 8 bytes, little-endian, under its length.
 struct Record(Vec<u8>);
@@ -170,6 +173,21 @@ fn calls() -> Calls {
     calls
 }
 
+/// Random sheets with stores and limits around their need, a damaged copy of
+/// each, and wide sheets.
+fn fresh_calls(seed: u64) -> Calls {
+    let mut random = Random::new(seed);
+    let mut calls = Calls::default();
+    for sheet in random_sheets(FRESH_SHEETS, 7, &mut random) {
+        calls.around(&sheet.bytes(), CASES_EACH, &mut random);
+        calls.add(&damaged(&sheet.bytes(), &mut random), &ample());
+    }
+    for sheet in random_sheets(FRESH_WIDE_SHEETS, 12, &mut random) {
+        calls.add(&sheet.bytes(), &ample());
+    }
+    calls
+}
+
 /// Sheets with the sheet check's answer: 1 to 9, or 0 if it has none of these.
 fn checks() -> Vec<Vec<u8>> {
     let mut random = Random::new(CHECKS_SEED);
@@ -196,13 +214,21 @@ fn write(path: &Path, what: &str, seed: u64, records: &[Vec<u8>]) -> io::Result<
     Ok(())
 }
 
-pub fn write_vectors(folder: &Path) -> io::Result<()> {
+fn write_calls(folder: &Path, seed: u64, calls: &Calls) -> io::Result<()> {
     fs::create_dir_all(folder)?;
-    let calls = calls();
-    write(&folder.join("calls.bin"), "calls", CALLS_SEED, &calls.records)?;
+    write(&folder.join("calls.bin"), "calls", seed, &calls.records)?;
     println!(
         "  {} with trials, {} with unequal lists, {} held to the Rust, by answer {:?}",
         calls.with_candidates, calls.unequal, calls.held, calls.answers
     );
+    Ok(())
+}
+
+pub fn write_vectors(folder: &Path) -> io::Result<()> {
+    write_calls(folder, CALLS_SEED, &calls())?;
     write(&folder.join("checks.bin"), "sheet checks", CHECKS_SEED, &checks())
+}
+
+pub fn write_fresh(folder: &Path, seed: u64) -> io::Result<()> {
+    write_calls(folder, seed, &fresh_calls(seed))
 }
