@@ -121,7 +121,7 @@ module _ (bs : List ℕ) (bytes : Bytes bs) (z : Float) (l : Lent) {r : Reported
   few-plans : length (listCall bs .plans) ≤ 1088
   few-plans =
       let same : l .plans .pset ≡ column (λ (p : Plan). p .set) (listCall bs .plans) noSets =
-          ap (λ (x : Lent). x .plans .pset) (lists ∙ ap (λ (o : Outcome). holds o (fresh z)) same-call) in
+      ap (λ (x : Lent). x .plans .pset) (lists ∙ ap (λ (o : Outcome). holds o (fresh z)) same-call) in
       omega (arith, size, ap (λ (x : List ℕ). length x) same, entries-fit (λ (p : Plan). p .set) (listCall bs .plans) noSets)
 
   pub text-is : {c : Counts} {n : ℕ} → c ≡ countsIn r → n ≡ leavesPassed bs → textFrom c n (l .plans .pset) (l .plans .pleft) (l .plans .pright) ≡ printed bs

@@ -79,14 +79,7 @@ fn trials(leaves: u32, plans: u32) -> u32
 }
 
 // The text from the plans' lists, of which the first n are leaves.
-fn listed(
-    c: Counts,
-    n: u32,
-    pset: &[u64],
-    pleft: &[u32],
-    pright: &[u32],
-    out: &mut [u8],
-) -> Written
+fn listed(c: Counts, n: u32, pset: &[u64], pleft: &[u32], pright: &[u32], out: &mut [u8]) -> Written
     ensures result { λ r. ⌜ r ≡ answerFor (textFrom c n (now (pset .entry)) (now (pleft .entry)) (now (pright .entry))) (now (out .entry)) ⌝ }
     ensures text { λ r. ⌜ now (out .exit) ≡ writtenIn (textFrom c n (now (pset .entry)) (now (pleft .entry)) (now (pright .entry))) (now (out .entry)) ⌝ }
 {
@@ -135,5 +128,12 @@ pub fn tried_text(sheet: &[u8], out: &mut [u8]) -> Written
         &mut mset,
         &mut mplan,
     );
-    listed(counts_of(answer), leaves(sheet), &pset, &pleft, &pright, out)
+    listed(
+        counts_of(answer),
+        leaves(sheet),
+        &pset,
+        &pleft,
+        &pright,
+        out,
+    )
 }

@@ -39,8 +39,8 @@ returns c =
     let a = c .before .before .before .before .before .before .before .before .before .before .before .before .before .before .before .before .before .args in
     let text = c .before .before .tried-list .ensures in
     let same =
-        text-made (a .c) (a .n) (a .pset .now) (a .pleft .now) (a .pright .now) (c .before .before .before .before .before .before .before .before .before .before .before .side-sets .ensures)
-        (c .before .before .before .before .before .before .before .before .side-sets2 .ensures) (c .before .before .before .before .before .before .trials .ensures) in
+    text-made (a .c) (a .n) (a .pset .now) (a .pleft .now) (a .pright .now) (c .before .before .before .before .before .before .before .before .before .before .before .side-sets .ensures)
+    (c .before .before .before .before .before .before .before .before .side-sets2 .ensures) (c .before .before .before .before .before .before .trials .ensures) in
     (text .0 ∙ ap (λ (t : List ℕ). answerFor t (a .out .now)) same, text .1 ∙ ap (λ (t : List ℕ). writtenIn t (a .out .now)) same)
 
 pub listed-spec : {M : Type 1} → statement M
