@@ -128,12 +128,7 @@ pub fn tried_text(sheet: &[u8], out: &mut [u8]) -> Written
         &mut mset,
         &mut mplan,
     );
-    listed(
-        counts_of(answer),
-        leaves(sheet),
-        &pset,
-        &pleft,
-        &pright,
-        out,
-    )
+    let c = counts_of(answer);
+    let n = leaves(sheet);
+    listed(c, n, &pset, &pleft, &pright, out)
 }
