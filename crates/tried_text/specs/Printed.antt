@@ -26,6 +26,10 @@ listCall bs = call bs listRooms defaultLimit
 unfoldable pub printed : List ℕ → List ℕ
 printed bs = triedList (listCall bs .answer) (listCall bs .visits) (pairsIn (leavesIn bs) (listCall bs .plans))
 
+-- no text is longer: 33 bytes for the first line, and 45 for each of as many candidates as there may be plans
+abbrev pub longestText : ℕ
+longestText = 48993
+
 -- the open-list rule for the text: "on sheets of one form whose words differ only in leaf rows and shares" the same bytes are printed. bs: an
 -- accepted sheet
 abbrev pub OpenText : List ℕ → Type 0

@@ -2,7 +2,7 @@
 use mathlib.Core.Path.{_≡_, refl, sym, ap, ap₂, _∙_}
 use mathlib.Core.Bool.{true}
 use mathlib.Core.List.{List, [], map}
-use Prim.Native.Nat.{ℕ, zero, suc, _+_, _-_, _≤_, _<_, zero-le}
+use Prim.Native.Nat.{ℕ, zero, suc, _+_, _-_, _*_, _^_, _≤_, _<_, zero-le}
 use native.Mathlib.Omega.{arith}
 use lib.ListN.{length, replicate, drop, length-replicate, length-map, length-append, drop-of-length-le}
 use lib.Dec.{eqb}
@@ -19,12 +19,13 @@ use Rattle.definition.specs.OpenRule.{OpenPart}
 use Rattle.definition.specs.InputLaws.{leaves-counted}
 use Rattle.definition.specs.TriedList.{triedList}
 use Rattle.listing.specs.Text.{pairsOf}
+use Rattle.listing.specs.TextLaws.{head-bound, lines-bound, text-length}
 use Rattle.listing.specs.ReadBack.{pairs-read}
 use Rattle.planner.specs.Answers.{Reported, reported}
 use Rattle.planner.specs.Lent.{Lent, lent, roomsIn, holds}
 use Rattle.planner.specs.RoomLaws.{not-refused}
 use Rattle.tried_text.specs.declared.Counts.{Counts}
-use Rattle.tried_text.specs.Printed.{listRooms, listCall, printed, OpenText, countsIn, leavesPassed, noSets, sideOf, textFrom}
+use Rattle.tried_text.specs.Printed.{listRooms, listCall, printed, longestText, OpenText, countsIn, leavesPassed, noSets, sideOf, textFrom}
 
 -- ---- the open-list rule
 
@@ -99,6 +100,14 @@ pub text-made : (c : Counts) (n : ℕ) (pset pleft pright : List ℕ) {left righ
 unfolding textFrom
 text-made c n pset pleft pright p q e = rw (p, q, e) refl
 
+-- its length, for numbers of 32 bits
+pub text-bound : (c : Counts) (n : ℕ) (pset pleft pright : List ℕ) → c .answer < 2 ^ 32 → c .plans - n < 2 ^ 32 → c .visits < 2 ^ 32
+    → length (textFrom c n pset pleft pright) ≤ 33 + 45 * (c .plans - n)
+unfolding textFrom
+text-bound c n pset pleft pright a few v =
+    let k = c .plans - n in
+    omega (arith, text-length (sideOf pset n (c .plans) pleft) (sideOf pset n (c .plans) pright) (c .answer) (c .visits) k, head-bound (c .answer) k (c .visits) a few v, lines-bound k (omega arith))
+
 -- a field's list is no shorter than its entries
 entries-fit : {A : Type 0} (f : A → ℕ) (xs : List A) (l : List ℕ) → length xs ≤ length (column f xs l)
 entries-fit f xs l = omega (arith, length-append (map f xs) (drop (length xs) l), length-map xs f)
@@ -129,3 +138,10 @@ module _ (bs : List ℕ) (bytes : Bytes bs) (z : Float) (l : Lent) {r : Reported
   text-is e f =
       rw (e, f, answer, lists, same-call)
       (ap (triedList (listCall bs .answer) (listCall bs .visits)) (pairs-printed bs bytes noSets noSets noSets few-plans))
+
+  pub text-fits : {c : Counts} {n : ℕ} → c ≡ countsIn r → n ≡ leavesPassed bs
+      → length (textFrom c n (l .plans .pset) (l .plans .pleft) (l .plans .pright)) ≤ 33 + 45 * (c .plans - n)
+      → length (printed bs) ≤ longestText
+  text-fits e f h =
+      let plans = ap (λ (x : Counts). x .plans) (e ∙ ap countsIn (answer ∙ ap reported same-call)) in
+      omega (arith, h, few-plans, plans, ap (λ (t : List ℕ). length t) (text-is e f))

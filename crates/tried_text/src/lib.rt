@@ -1,10 +1,11 @@
 // The text that the tried list's program prints of a sheet.
 ghost use mathlib.Core.Path.{_≡_};
-ghost use Prim.Native.Nat.{_-_};
+ghost use Prim.Native.Nat.{_+_, _-_, _*_, _≤_};
+ghost use lib.ListN.{length};
 ghost use Rattle.search.specs.View.{endingNumber};
 ghost use Rattle.listing.specs.Text.{answerFor, writtenIn};
 ghost use Rattle.planner.specs.Answers.{refusalNumber, reportedOf};
-ghost use Rattle.tried_text.specs.Printed.{printed, OpenText, countsIn, leavesPassed, textFrom};
+ghost use Rattle.tried_text.specs.Printed.{printed, longestText, OpenText, countsIn, leavesPassed, textFrom};
 use listing::Written;
 use planner::Answer;
 use planner::Refusal;
@@ -82,6 +83,7 @@ fn trials(leaves: u32, plans: u32) -> u32
 fn listed(c: Counts, n: u32, pset: &[u64], pleft: &[u32], pright: &[u32], out: &mut [u8]) -> Written
     ensures result { λ r. ⌜ r ≡ answerFor (textFrom c n (now (pset .entry)) (now (pleft .entry)) (now (pright .entry))) (now (out .entry)) ⌝ }
     ensures text { λ r. ⌜ now (out .exit) ≡ writtenIn (textFrom c n (now (pset .entry)) (now (pleft .entry)) (now (pright .entry))) (now (out .entry)) ⌝ }
+    ensures size { λ r. ⌜ length (textFrom c n (now (pset .entry)) (now (pleft .entry)) (now (pright .entry))) ≤ 33 + 45 * (c .plans - n) ⌝ }
 {
     let mut left = [0u64; 1088];
     let mut right = [0u64; 1088];
@@ -95,6 +97,7 @@ fn listed(c: Counts, n: u32, pset: &[u64], pleft: &[u32], pright: &[u32], out: &
 pub fn tried_text(sheet: &[u8], out: &mut [u8]) -> Written
     ensures result { λ r. ⌜ r ≡ answerFor (printed (now (sheet .entry))) (now (out .entry)) ⌝ }
     ensures text { λ r. ⌜ now (out .exit) ≡ writtenIn (printed (now (sheet .entry))) (now (out .entry)) ⌝ }
+    ensures size { λ r. ⌜ length (printed (now (sheet .entry))) ≤ longestText ⌝ }
     ensures open { λ r. ⌜ OpenText (now (sheet .entry)) ⌝ }
 {
     let mut eleft = [0u64; 256];

@@ -3,9 +3,10 @@ use Rattle.tried_text.proofs.listed.Statement.{statement}
 use Rattle.tried_text.proofs.listed.Tie as tie
 use mathlib.Core.Path.{ap, _∙_}
 use mathlib.Core.List.{List}
-use Prim.Native.Nat.{ℕ}
+use Prim.Native.Nat.{ℕ, _-_, _^_, _<_}
+use native.Mathlib.Omega.{arith}
 use Rattle.listing.specs.Text.{answerFor, writtenIn}
-use Rattle.tried_text.specs.PrintedLaws.{text-made}
+use Rattle.tried_text.specs.PrintedLaws.{text-made, text-bound}
 
 slice-aggregate-side-sets : tie.Need-slice-aggregate-side-sets
 slice-aggregate-side-sets c = search needs
@@ -36,12 +37,16 @@ same-length c = search needs
 
 returns : tie.Need-returns
 returns c =
-    let a = c .before .before .before .before .before .before .before .before .before .before .before .before .before .before .before .before .before .args in
+    let start = c .before .before .before .before .before .before .before .before .before .before .before .before .before .before .before .before .before in
+    let a = start .args in
     let text = c .before .before .tried-list .ensures in
+    let few : a .c .plans - a .n < 2 ^ 32 = omega (arith, c .before .before .before .before .before .before .trials .ensures) in
     let same =
     text-made (a .c) (a .n) (a .pset .now) (a .pleft .now) (a .pright .now) (c .before .before .before .before .before .before .before .before .before .before .before .side-sets .ensures)
-    (c .before .before .before .before .before .before .before .before .side-sets2 .ensures) (c .before .before .before .before .before .before .trials .ensures) in
-    (text .0 ∙ ap (λ (t : List ℕ). answerFor t (a .out .now)) same, text .1 ∙ ap (λ (t : List ℕ). writtenIn t (a .out .now)) same)
+    (c .before .before .before .before .before .before .before .before .side-sets2 .ensures) (c .before .before .before .before .before .before .trials .ensures) in (
+      text .0 ∙ ap (λ (t : List ℕ). answerFor t (a .out .now)) same,
+      (text .1 ∙ ap (λ (t : List ℕ). writtenIn t (a .out .now)) same, text-bound (a .c) (a .n) (a .pset .now) (a .pleft .now) (a .pright .now) (omega arith) few (omega (arith, start .good .0))),
+    )
 
 pub listed-spec : {M : Type 1} → statement M
 listed-spec =

@@ -8,7 +8,7 @@ use native.Mathlib.Omega.{arith}
 use lib.ListN.{length-replicate}
 use Rattle.definition.specs.Sheet.{Bytes}
 use Rattle.listing.specs.Text.{answerFor, writtenIn}
-use Rattle.tried_text.specs.PrintedLaws.{text-is, open-text}
+use Rattle.tried_text.specs.PrintedLaws.{text-is, text-fits, open-text}
 
 slice-aggregate-plan-default : tie.Need-slice-aggregate-plan-default
 slice-aggregate-plan-default c = search needs
@@ -82,11 +82,15 @@ returns c =
     let bytes : Bytes (a .sheet .now) = λ i. omega (arith, c .before .before .before .before .before .before .before .before .before .before .before .before .before .before .before .before .before .before .before .before .before .before .before .before .before .before .before .before .before .before .before .before .before .before .before .before .before .before .before .shared-slice-known .given i) in
     let plan = c .before .before .before .before .before .before .before .before .before .before .before .before .before .before .before .before .before .before .before .before .before .before .before .plan-default in
     let text = c .before .before .listed .ensures in
-    let same =
-    text-is (a .sheet .now) bytes _ _ (plan .ensures .0) (plan .ensures .1) (plan .kept .1 .1 .1 .1 .1 .1 .0 ∙ length-replicate {A = ℕ} 1088 0)
-    (c .before .before .before .before .before .before .before .before .counts-of .ensures) (c .before .before .before .before .before .before .before .leaves .ensures) in (
+    let size = plan .kept .1 .1 .1 .1 .1 .1 .0 ∙ length-replicate {A = ℕ} 1088 0 in
+    let counts = c .before .before .before .before .before .before .before .before .counts-of .ensures in
+    let leaves = c .before .before .before .before .before .before .before .leaves .ensures in
+    let same = text-is (a .sheet .now) bytes _ _ (plan .ensures .0) (plan .ensures .1) size counts leaves in (
       text .0 ∙ ap (λ (t : List ℕ). answerFor t (a .out .now)) same,
-      (text .1 ∙ ap (λ (t : List ℕ). writtenIn t (a .out .now)) same, open-text (a .sheet .now) bytes),
+      (
+        text .1 .0 ∙ ap (λ (t : List ℕ). writtenIn t (a .out .now)) same,
+        (text-fits (a .sheet .now) bytes _ _ (plan .ensures .0) (plan .ensures .1) size counts leaves (text .1 .1), open-text (a .sheet .now) bytes),
+      ),
     )
 
 pub tried-text-spec : {M : Type 1} → statement M
