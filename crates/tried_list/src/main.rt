@@ -10,12 +10,12 @@ fn print_front(text: &[u8], n: usize) {
     }
 }
 
+// There is room for every text: tried_text says of the printed text's size that it is at most 48,993 bytes.
 fn print_text(sheet: &[u8]) {
-    let mut space = io::large_buffer();
-    let out: &mut [u8] = &mut space;
-    let written = tried_text::tried_text(sheet, out);
+    let mut out = [0u8; 48993];
+    let written = tried_text::tried_text(sheet, &mut out);
     match written {
-        Written::Bytes(n) => print_front(out, n),
+        Written::Bytes(n) => print_front(&out, n),
         Written::NoRoom => {}
     }
 }
