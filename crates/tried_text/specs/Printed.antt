@@ -30,8 +30,8 @@ printed bs = triedList (listCall bs .answer) (listCall bs .visits) (pairsIn (lea
 abbrev pub longestText : ℕ
 longestText = 48993
 
--- the open-list rule for the text: "on sheets of one form whose words differ only in leaf rows and shares" the same bytes are printed. bs: an
--- accepted sheet
+-- the open-list rule for the text: "Whatever row counts and shares within their limits replace those of an accepted sheet", the same bytes are
+-- printed
 abbrev pub OpenText : List ℕ → Type 0
 OpenText bs = accepted bs listRooms ≡ true → (cs : List ℕ) → Bytes cs → SameOpenBytes bs cs → SelectivitiesFit cs → printed cs ≡ printed bs
 

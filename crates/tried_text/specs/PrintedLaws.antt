@@ -1,6 +1,5 @@
 -- The text made from the lent lists is the tried list, and the open-list rule holds of it. Assumes nothing.
 use mathlib.Core.Path.{_≡_, refl, sym, ap, ap₂, _∙_}
-use mathlib.Core.Bool.{true}
 use mathlib.Core.List.{List, [], map}
 use Prim.Native.Nat.{ℕ, zero, suc, _+_, _-_, _*_, _^_, _≤_, _<_, zero-le}
 use native.Mathlib.Omega.{arith}
@@ -11,7 +10,7 @@ use Rattle.definition.specs.Lists.{tabulate, column}
 use Rattle.definition.specs.Sheet.{Bytes, questionOf, sheetAnswer}
 use Rattle.definition.specs.Search.{Plan, Pair, Input}
 use Rattle.definition.specs.Kept.{Candidates}
-use Rattle.definition.specs.Call.{Rooms, Outcome, storeLength, defaultLimit, refusedWith, accepted, refusal, leavesIn, inputOf, searched, call}
+use Rattle.definition.specs.Call.{Rooms, Outcome, storeLength, defaultLimit, refusedWith, leavesIn, inputOf, call}
 use Rattle.definition.specs.PlanRule.{pairIn, pairsIn}
 use Rattle.definition.specs.PlanRuleLaws.{plan-rule}
 use Rattle.definition.specs.OpenRuleLaws.{open-list-rule}
