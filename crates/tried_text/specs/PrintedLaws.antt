@@ -12,7 +12,7 @@ use Rattle.definition.specs.Search.{Plan, Pair, Input}
 use Rattle.definition.specs.Kept.{Candidates}
 use Rattle.definition.specs.Call.{Rooms, Outcome, storeLength, defaultLimit, refusedWith, leavesIn, inputOf, call}
 use Rattle.definition.specs.PlanRule.{pairIn, pairsIn}
-use Rattle.definition.specs.PlanRuleLaws.{plan-rule}
+use Rattle.definition.specs.PlanRuleLaws.{plan-rule, call-pairs}
 use Rattle.definition.specs.OpenRuleLaws.{open-list-rule}
 use Rattle.definition.specs.OpenRule.{OpenPart}
 use Rattle.definition.specs.InputLaws.{leaves-counted}
@@ -87,6 +87,7 @@ module _ (bs : List ℕ) (bytes : Bytes bs) (sr lr rr : List ℕ) where
           candidates-printed (inputOf (questionOf bs) listRooms defaultLimit) _ (listCall bs .plans)
           (plan-rule bs bytes listRooms defaultLimit (ap (λ (n : ℕ). eqb n 0) e) .candidates) (leavesPassed bs)
           (sym (leaves-passed bs (not-refused bs listRooms e .0)) ∙ sym (leaves-counted (questionOf bs .items))) h sr lr rr
+          ∙ call-pairs bs bytes listRooms defaultLimit
       go (suc k) e = rw (refused-plans k e) (none-printed (leavesPassed bs) (leavesIn bs))
 
 -- ---- the text

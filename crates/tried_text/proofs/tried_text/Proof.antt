@@ -85,11 +85,11 @@ returns c =
     let size = plan .kept .1 .1 .1 .1 .1 .1 .0 ∙ length-replicate {A = ℕ} 1088 0 in
     let counts = c .before .before .before .before .before .before .before .before .counts-of .ensures in
     let leaves = c .before .before .before .before .before .before .before .leaves .ensures in
-    let same = text-is (a .sheet .now) bytes _ _ (plan .ensures .0) (plan .ensures .1) size counts leaves in (
+    let same = text-is (a .sheet .now) bytes _ _ (plan .ensures .0) (plan .ensures .1 .0) size counts leaves in (
       text .0 ∙ ap (λ (t : List ℕ). answerFor t (a .out .now)) same,
       (
         text .1 .0 ∙ ap (λ (t : List ℕ). writtenIn t (a .out .now)) same,
-        (text-fits (a .sheet .now) bytes _ _ (plan .ensures .0) (plan .ensures .1) size counts leaves (text .1 .1), open-text (a .sheet .now) bytes),
+        (text-fits (a .sheet .now) bytes _ _ (plan .ensures .0) (plan .ensures .1 .0) size counts leaves (text .1 .1), open-text (a .sheet .now) bytes),
       ),
     )
 
