@@ -10,6 +10,8 @@ ghost use Prim.Native.Nat.{_<_};
 
 // No chosen plan.
 const NONE: u32 = 4294967295;
+// The visit limit.
+const LIMIT: u32 = 4294967295;
 
 struct Numbers {
     answer: u32,
@@ -94,7 +96,7 @@ fn plan_once(
 ) -> Numbers {
     numbers_of(planner::plan(
         sheet,
-        NONE,
+        LIMIT,
         eleft,
         eright,
         epredicate,
@@ -192,11 +194,8 @@ fn read_rounds() -> u32 {
     wide(head[0]) + 256 * wide(head[1]) + 65536 * wide(head[2]) + 16777216 * wide(head[3])
 }
 
-// A sheet has at most 21,512 bytes; with one byte more, a longer input has the wrong length for any sheet, as the whole of it has.
-fn main() {
-    let rounds = read_rounds();
-    let mut bytes = [0u8; 21513];
-    let n = io::read_full(STDIN_FILENO, &mut bytes);
+// Lends stores that are long enough for every sheet of the bench, and prints the last call's numbers.
+fn run(sheet: &[u8], rounds: u32) {
     let mut eleft = [0u64; 256];
     let mut eright = [0u64; 256];
     let mut epredicate = [0u32; 256];
@@ -212,7 +211,7 @@ fn main() {
     let mut mset = [0u64; 1024];
     let mut mplan = [0u32; 1024];
     let last = repeat(
-        &bytes[0..n],
+        sheet,
         rounds,
         &mut eleft,
         &mut eright,
@@ -230,4 +229,12 @@ fn main() {
         &mut mplan,
     );
     print(last);
+}
+
+// A sheet has at most 21,512 bytes. One byte more is read: with it a longer input has the wrong length for any sheet, as the whole of it has.
+fn main() {
+    let rounds = read_rounds();
+    let mut bytes = [0u8; 21513];
+    let n = io::read_full(STDIN_FILENO, &mut bytes);
+    run(&bytes[0..n], rounds);
 }
