@@ -2,6 +2,7 @@
 # Builds the oracle into target/:
 #   target/oracle          over the unchanged published files
 #   target/oracle-counted  over a copy of join_ordering.rs that counts visits
+#   target/oracle-bench    with the word 'bench': target/oracle, optimised as one whole
 # The published files come from $OPTD_SOURCE, by default the folder
 # shared/docs/src beside the repository. Nothing of them is kept here but
 # their checksums.
@@ -53,6 +54,9 @@ compile() {
 lay_out "$build/unchanged"
 grep -q '^}$' <(connecting_edge_indices) || fail "connecting_edge_indices was not found"
 compile "$build/unchanged" "$build/oracle"
+if [ "${1:-}" = bench ]; then
+    compile "$build/unchanged" "$build/oracle-bench" -C codegen-units=1 -C lto=fat
+fi
 
 # The counted copy: one call more at the head of each of the four loops over subsets.
 loop_head='for \&n_sub in \&subsets {'

@@ -1,6 +1,7 @@
 //! The oracle: the published Rust run on the mill's sheets, and a plain
 //! reference for the whole call beside it. See README.md.
 
+mod bench_sheets;
 mod boundary;
 mod cases;
 mod compare;
@@ -12,6 +13,7 @@ mod published;
 mod random;
 mod random_sheets;
 mod reference;
+mod rounds;
 mod samples;
 mod sheet;
 mod survey;
@@ -22,6 +24,9 @@ use std::error::Error;
 use std::io::Read;
 use std::path::Path;
 use std::process::ExitCode;
+
+const USAGE: &str = "usage: oracle compare | survey | vectors FOLDER | fresh FOLDER SEED | plan [WORD...] \
+                     | bench-sheets FOLDER | rounds";
 
 /// The sheet given as words, or else on standard input as bytes.
 fn sheet_bytes(words: &[String]) -> Result<Vec<u8>, Box<dyn Error>> {
@@ -48,8 +53,12 @@ fn main() -> Result<ExitCode, Box<dyn Error>> {
         Some((command, [folder, seed])) if command == "fresh" => {
             vectors::write_fresh(Path::new(folder), seed.parse()?)?;
         }
+        Some((command, [folder])) if command == "bench-sheets" => {
+            bench_sheets::write_sheets(Path::new(folder))?;
+        }
+        Some((command, [])) if command == "rounds" => rounds::print_rounds(&sheet_bytes(&[])?),
         Some((command, words)) if command == "plan" => plan::print_plan(&sheet_bytes(words)?),
-        _ => return Err("usage: oracle compare | survey | vectors FOLDER | fresh FOLDER SEED | plan [WORD...]".into()),
+        _ => return Err(USAGE.into()),
     }
     Ok(ExitCode::SUCCESS)
 }

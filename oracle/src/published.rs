@@ -49,7 +49,7 @@ pub fn run(sheet: &Sheet) -> Published {
 
 /// The sheet as a query: operator n is item n, expression n the sheet's n-th
 /// column, the expressions after these the predicates, then the conditions.
-fn query(sheet: &Sheet) -> QueryContext {
+pub fn query(sheet: &Sheet) -> QueryContext {
     let mut query = QueryContext::default();
     let columns = columns(sheet, &mut query);
     let refs: Vec<Expr> =

@@ -1,7 +1,7 @@
 //! A stand-in for optd's analyses. `connecting_edge_indices`, cut verbatim out
 //! of the published analysis.rs, follows at the end of this file when it is built.
 
-use std::collections::HashMap;
+use std::ops::Index;
 
 use crate::hypergraph::{NodeSet, QueryHypergraph};
 use crate::{Column, Expr, ExprData, Operator, OperatorData, QueryContext};
@@ -31,9 +31,31 @@ pub trait Analyzable {
 #[derive(Default)]
 pub struct AnalysisContext {
     /// Estimated rows of each operator costed so far.
-    pub rows: HashMap<Operator, f64>,
+    pub rows: Rows,
     /// Notes in the order in which operators were costed.
     pub costed: Vec<Costed>,
+}
+
+/// Row estimates by the operator's number; NaN where none is noted.
+#[derive(Default)]
+pub struct Rows(Vec<f64>);
+
+impl Rows {
+    pub fn insert(&mut self, operator: Operator, rows: f64) {
+        let place = operator.index();
+        if self.0.len() <= place {
+            self.0.resize(place + 1, f64::NAN);
+        }
+        self.0[place] = rows;
+    }
+}
+
+impl Index<&Operator> for Rows {
+    type Output = f64;
+
+    fn index(&self, operator: &Operator) -> &f64 {
+        &self.0[operator.index()]
+    }
 }
 
 /// An operator's total cost, and the visits counted until it was costed.

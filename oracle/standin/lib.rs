@@ -237,6 +237,17 @@ impl QueryContext {
     pub fn column(&self, column: Column) -> &ColumnData {
         &self.columns[column.0]
     }
+
+    /// How many operators and expressions there are.
+    pub fn sizes(&self) -> [usize; 2] {
+        [self.operators.len(), self.exprs.len()]
+    }
+
+    /// Drops the operators and expressions added since the sizes were these.
+    pub fn truncate(&mut self, [operators, exprs]: [usize; 2]) {
+        self.operators.truncate(operators);
+        self.exprs.truncate(exprs);
+    }
 }
 
 /// What `JoinOrdering::run` takes; the oracle calls `solve` below it.

@@ -26,3 +26,23 @@ pub fn solve_hypergraph<M: CostModel>(
         .collect();
     Ok(Solved { chosen, kept })
 }
+
+/// What is counted of the search.
+pub struct Counted {
+    /// The plan that `solve` returns.
+    pub chosen: Option<Operator>,
+    /// Entries of the DP table.
+    pub kept: usize,
+}
+
+/// Runs `DPhyp::solve` and counts the DP table.
+pub fn solve_counted<M: CostModel>(
+    ctx: &mut QueryContext,
+    analyses: &mut AnalysisContext,
+    hg: &QueryHypergraph,
+    cost_model: &M,
+) -> OptimizeResult<Counted> {
+    let mut search = DPhyp::new(ctx, analyses, hg, cost_model);
+    let chosen = search.solve()?.map(|plan| plan.root);
+    Ok(Counted { chosen, kept: search.dp.len() })
+}
