@@ -7,7 +7,7 @@ use lib.ListN.{replicate}
 use lib.Seq.{sets}
 use Rattle.definition.specs.Sheet.{Bytes, sheetAnswer}
 use Rattle.definition.specs.Call.{Rooms, Outcome, defaultLimit, accepted, leavesIn, call}
-use Rattle.definition.specs.PlanRule.{pairsIn}
+use Rattle.definition.specs.PlanRule.{pairsIn, CallPlanRule}
 use Rattle.definition.specs.OpenRule.{SameOpenBytes, SelectivitiesFit}
 use Rattle.definition.specs.TriedList.{triedList}
 use Rattle.listing.specs.Text.{pairsOf, sideSets}
@@ -34,6 +34,10 @@ longestText = 48993
 -- printed
 abbrev pub OpenText : List ℕ → Type 0
 OpenText bs = accepted bs listRooms ≡ true → (cs : List ℕ) → Bytes cs → SameOpenBytes bs cs → SelectivitiesFit cs → printed cs ≡ printed bs
+
+-- the plan rule for the plans behind the printed trials: "Whichever answer ends the search, for each set of two or more leaves that has a plan"
+abbrev pub KeptBehind : List ℕ → Type 0
+KeptBehind bs = accepted bs listRooms ≡ true → CallPlanRule bs listRooms defaultLimit (listCall bs)
 
 -- ---- the parts of the code
 

@@ -5,7 +5,7 @@ ghost use lib.ListN.{length};
 ghost use Rattle.search.specs.View.{endingNumber};
 ghost use Rattle.listing.specs.Text.{answerFor, writtenIn};
 ghost use Rattle.planner.specs.Answers.{refusalNumber, reportedOf};
-ghost use Rattle.tried_text.specs.Printed.{printed, longestText, OpenText, countsIn, leavesPassed, textFrom};
+ghost use Rattle.tried_text.specs.Printed.{printed, longestText, OpenText, KeptBehind, countsIn, leavesPassed, textFrom};
 use listing::Written;
 use planner::Answer;
 use planner::Refusal;
@@ -99,6 +99,7 @@ pub fn tried_text(sheet: &[u8], out: &mut [u8]) -> Written
     ensures text { λ r. ⌜ now (out .exit) ≡ writtenIn (printed (now (sheet .entry))) (now (out .entry)) ⌝ }
     ensures size { λ r. ⌜ length (printed (now (sheet .entry))) ≤ longestText ⌝ }
     ensures open { λ r. ⌜ OpenText (now (sheet .entry)) ⌝ }
+    ensures kept { λ r. ⌜ KeptBehind (now (sheet .entry)) ⌝ }
 {
     let mut eleft = [0u64; 256];
     let mut eright = [0u64; 256];

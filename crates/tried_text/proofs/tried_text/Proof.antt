@@ -1,4 +1,7 @@
 use borrow.Author.Needs.{needs}
+use Rattle.definition.specs.Call.{defaultLimit}
+use Rattle.definition.specs.PlanRuleLaws.{plan-rule}
+use Rattle.tried_text.specs.Printed.{listRooms}
 use Rattle.tried_text.proofs.tried_text.Statement.{statement}
 use Rattle.tried_text.proofs.tried_text.Tie as tie
 use mathlib.Core.Path.{ap, _∙_}
@@ -89,7 +92,7 @@ returns c =
       text .0 ∙ ap (λ (t : List ℕ). answerFor t (a .out .now)) same,
       (
         text .1 .0 ∙ ap (λ (t : List ℕ). writtenIn t (a .out .now)) same,
-        (text-fits (a .sheet .now) bytes _ _ (plan .ensures .0) (plan .ensures .1 .0) size counts leaves (text .1 .1), open-text (a .sheet .now) bytes),
+        (text-fits (a .sheet .now) bytes _ _ (plan .ensures .0) (plan .ensures .1 .0) size counts leaves (text .1 .1), (open-text (a .sheet .now) bytes, plan-rule (a .sheet .now) bytes listRooms defaultLimit)),
       ),
     )
 
