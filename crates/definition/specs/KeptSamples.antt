@@ -1,18 +1,14 @@
--- What the plan rule's definitions refuse, on lists made by hand: a leaf left out, a leaf met twice, a join without an edge, a costlier candidate
--- and a later one of equal cost.
+-- What the plan rule's definitions refuse, on lists made by hand: a leaf left out, a leaf met twice, a join without an edge.
 use mathlib.Core.Path.{_≡_, refl, subst}
 use mathlib.Core.Bool.{true, false≢true}
 use mathlib.Core.List.{List, [], _∷_}
 use Prim.Native.Nat.{ℕ, zero, suc, _<_}
-use native.Mathlib.Nat.{not-le-of-lt, not-suc-le-zero, le-of-suc-le-suc}
+use native.Mathlib.Nat.{not-suc-le-zero, le-of-suc-le-suc}
 use native.Mathlib.Omega.{arith}
 use lib.ListN.{getD}
 use lib.Dec.{lit<, lit≤}
-use lib.Ieee.{ofInt}
 use Rattle.nodeset.specs.Sets.{bit}
 use Rattle.definition.specs.Hypergraph.{Edge, noEdge, connects}
-use Rattle.definition.specs.Cost.{Estimate, whole}
-use Rattle.definition.specs.EstimateOrder.{Earliest}
 use Rattle.definition.specs.Search.{Plan, absent}
 use Rattle.definition.specs.Kept.{EdgeBetween, Meets, occurs, JoinsOnce, EdgeAtEachJoin}
 use Rattle.definition.specs.KeptLaws.{meets-unique}
@@ -66,18 +62,3 @@ no-edge b = go (b .edge) (b .there) (b .between)
 pub without-edge : EdgeAtEachJoin edges 3 plans 3 → ⊥
 without-edge (EdgeAtEachJoin.at-leaf h) = omega arith
 without-edge (EdgeAtEachJoin.at-join h l b x y) = no-edge b
-
--- ---- the earliest of the least costly
-
-abbrev costs : List ℕ → ℕ → Estimate
-costs cs k = record { rows = whole 1; cost = whole (getD cs k 0) }
-
--- candidate 0 costs more than candidate 1, which comes later
-pub dearer : Earliest (costs (5 ∷ 4 ∷ [])) (λ k. true) 2 0 → ⊥
-unfolding ofInt
-dearer e = not-le-of-lt (lit< tt) (e .least 1 (lit< tt) refl)
-
--- candidate 1 costs as much as candidate 0, which comes earlier
-pub later : Earliest (costs (4 ∷ 4 ∷ [])) (λ k. true) 2 1 → ⊥
-unfolding ofInt
-later e = not-le-of-lt (e .earliest 0 (lit< tt) refl) (lit≤ tt)

@@ -26,6 +26,7 @@ pub mod TriedList
 pub mod SheetSamples
 pub mod CandidateOrder
 pub mod CandidateSamples
+pub mod CheapestSamples
 pub mod CostSamples
 pub mod DocumentSamples
 pub mod KeptSamples
@@ -57,7 +58,7 @@ pub mod EdgeLaws
 pub mod EdgeCount
 pub mod InputLaws
 pub mod PlanRuleLaws
-pub mod AnswerLaws
+pub mod OutcomeLaws
 pub mod OpenSheetLaws
 pub mod OpenRuleLaws
 pub mod RecordSetLaws
