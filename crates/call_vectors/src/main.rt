@@ -7,14 +7,10 @@ mod record;
 
 use libc::STDOUT_FILENO;
 use planner::Answer;
-use planner::Refusal;
-use record::Reply;
-use search::Ending;
+use planner::Report;
 ghost use mathlib.Core.Path.{_≡_};
 ghost use Prim.Native.Nat.{_+_, _*_, _<_, _≤_};
 ghost use lib.ListN.{length};
-
-const NONE: u32 = 4294967295;
 
 struct Tally {
     records: u32,
@@ -29,55 +25,6 @@ fn record_space() -> [u8; 81920]
     ensures { λ r. ⌜ 81920 ≡ length r ⌝ }
 {
     [0; 81920]
-}
-
-fn refusal_number(refusal: Refusal) -> u32 {
-    match refusal {
-        Refusal::Sheet(f) => f.number(),
-        Refusal::TooManyEdges => 10,
-        Refusal::StoreTooSmall => 11,
-    }
-}
-
-fn chosen(ending: Ending) -> u32 {
-    match ending {
-        Ending::Planned(p) => p.0,
-        _ => NONE,
-    }
-}
-
-fn ending_number(ending: Ending) -> u32 {
-    match ending {
-        Ending::Planned(_) => 0,
-        Ending::PlansFull => 12,
-        Ending::MemoFull => 13,
-        Ending::VisitsSpent => 14,
-        Ending::NoPlan => 15,
-    }
-}
-
-fn reply_of(answer: Answer) -> Reply {
-    match answer {
-        Answer::Refused(r) => Reply {
-            answer: refusal_number(r),
-            edges: 0,
-            plans: 0,
-            memo: 0,
-            visits: 0,
-            chosen: NONE,
-        },
-        Answer::Ended(o) => {
-            let ending = o.ending;
-            Reply {
-                answer: ending_number(ending),
-                edges: o.edges,
-                plans: o.plans,
-                memo: o.memo,
-                visits: o.visits,
-                chosen: chosen(ending),
-            }
-        }
-    }
 }
 
 // The recorded call, over parts of the plan and memo lists in the recorded lengths. The edge lists are such parts already.
@@ -171,10 +118,10 @@ fn call(
     )
 }
 
-// Whether the reply and the lists are what the record has.
+// Whether the report and the lists are what the record has.
 fn agrees(
     words: &[u8],
-    r: Reply,
+    r: Report,
     eleft: &[u64],
     eright: &[u64],
     epredicate: &[u32],
@@ -194,7 +141,7 @@ fn agrees(
     if words.len() != p.end {
         return false;
     }
-    if !record::has_reply(words, r) {
+    if !record::has_report(words, r) {
         return false;
     }
     if !entries::same_edges(
@@ -244,7 +191,7 @@ fn compared(
     mset: &mut [u64],
     mplan: &mut [u32],
 ) -> bool {
-    let r = reply_of(call(
+    let r = call(
         record,
         eleft,
         eright,
@@ -260,7 +207,7 @@ fn compared(
         pcost,
         mset,
         mplan,
-    ));
+    ).report();
     agrees(
         records::after_sheet(record),
         r,

@@ -1,16 +1,7 @@
 // A recorded call, behind its sheet: 14 list lengths, the limit, the answer, the numbers of edges, plans and memo entries, the visits and the
 // chosen plan, each a word; then the edges of 28 bytes, the plans of 40 and the memo entries of 12.
+use planner::Report;
 ghost use Prim.Native.Nat.{_<_, _≤_};
-
-// A call's answer in numbers.
-pub struct Reply {
-    pub answer: u32,
-    pub edges: u32,
-    pub plans: u32,
-    pub memo: u32,
-    pub visits: u32,
-    pub chosen: u32,
-}
 
 // How many entries a record has of each kind, and where they begin.
 pub struct Places {
@@ -64,8 +55,8 @@ pub fn places_in(words: &[u8]) -> Places
     }
 }
 
-// Whether the record has this reply.
-pub fn has_reply(words: &[u8], r: Reply) -> bool {
+// Whether the record has this report.
+pub fn has_report(words: &[u8], r: Report) -> bool {
     if records::word(words, 60) != r.answer {
         return false;
     }

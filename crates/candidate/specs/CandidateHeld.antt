@@ -20,15 +20,18 @@ use Rattle.definition.specs.Connection.{Connection, connectionOver, connection}
 use Rattle.definition.specs.EdgeViewLaws.{length-edges, edges-get}
 use Rattle.definition.specs.EdgeWalkLaws.{lead-is-edge}
 use Rattle.definition.specs.Search.{Plan, Entry, Leaf, Input, State, absent, planAt, find, replace, kept, stopped, candidateKind, candidate, noted, added, stored, joined, attempt}
-use Rattle.candidate.specs.declared.DPhyp.{DPhyp}
-use Rattle.candidate.specs.declared.Found.{Found}
-use Rattle.candidate.specs.declared.Found.the-variants.{At, Nothing}
-use Rattle.candidate.specs.declared.Kept.the-variants as kept-variants
+use Rattle.store.specs.declared.DPhyp.{DPhyp}
+use Rattle.store.specs.declared.Found.{Found}
+use Rattle.store.specs.declared.Found.the-variants.{At, Nothing}
+use Rattle.store.specs.declared.Kept.the-variants as kept-variants
+use Rattle.store.specs.Counts.{counts}
+use Rattle.store.specs.Memo.{spot, planId}
+use Rattle.store.specs.Estimates as estimates
 use Rattle.candidate.specs.declared.Room.{Room}
 use Rattle.candidate.specs.declared.Room.the-variants.{Here}
 use Rattle.candidate.specs.declared.Due.the-variants.{Stop, Skip}
 use Rattle.candidate.specs.Store as S
-use Rattle.candidate.specs.Store.{Lists, Given, store, counts, edges, spot, spotOf, at, kindOf, leadKind, planId, place, placeOf, planFor, dueOf}
+use Rattle.candidate.specs.Store.{Lists, Given, store, edges, spotOf, at, kindOf, leadKind, place, placeOf, planFor, dueOf}
 use Rattle.candidate.specs.Held.{inputFor, holding, Roomy}
 use Rattle.candidate.specs.Laws.{lists-eq, attempt-skip, attempt-stop, attempt-make, due-stopped, due-no-left, due-no-right, due-none, due-full, due-no-place, due-place, place-new, place-full, place-cheaper, place-old}
 use Rattle.candidate.specs.MemoHeld.{sets, plans, Seated, seated, unseated, toKept, spot-held, plan-for}
@@ -100,8 +103,8 @@ module _ (g : Given) (ls : List Leaf) (limit : ℕ) (h : Lists) (room : Roomy g 
 
   estimate-is : (l : ℕ) → l < n → planAt st l .estimate ≡ at H l
   estimate-is l q =
-      ap₂ (λ (x y : Float). estimate x y) (field (λ (p : Plan). p .estimate .rows) (st .plans) (drop n (h .prows)) l S.zero q)
-      (field (λ (p : Plan). p .estimate .cost) (st .plans) (drop n (h .pcost)) l S.zero q)
+      ap₂ (λ (x y : Float). estimate x y) (field (λ (p : Plan). p .estimate .rows) (st .plans) (drop n (h .prows)) l estimates.zero q)
+      (field (λ (p : Plan). p .estimate .cost) (st .plans) (drop n (h .pcost)) l estimates.zero q)
     where
       estimate : Float → Float → Estimate
       estimate x y = record { rows = x; cost = y }
@@ -191,8 +194,8 @@ module _ (g : Given) (ls : List Leaf) (limit : ℕ) (h : Lists) (room : Roomy g 
             (put (λ (x : Plan). x .right) (st .plans) p (h .pright) 0 (omega (arith, room .pright)))
             (put (λ (x : Plan). x .lead) (st .plans) p (h .plead) 0 (omega (arith, room .plead)))
             (put (λ (x : Plan). x .kind) (st .plans) p (h .pkind) 0 (omega (arith, room .pkind)))
-            (put (λ (x : Plan). x .estimate .rows) (st .plans) p (h .prows) S.zero (omega (arith, room .prows)))
-            (put (λ (x : Plan). x .estimate .cost) (st .plans) p (h .pcost) S.zero (omega (arith, room .pcost)))
+            (put (λ (x : Plan). x .estimate .rows) (st .plans) p (h .prows) estimates.zero (omega (arith, room .prows)))
+            (put (λ (x : Plan). x .estimate .cost) (st .plans) p (h .pcost) estimates.zero (omega (arith, room .pcost)))
             e1 e2)
             (ap₂ (λ (x y : ℕ). counts x y (st .visits) 0) (sym q) em)
             ∙ ap (holding h) (sym ed)

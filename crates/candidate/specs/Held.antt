@@ -4,7 +4,8 @@ use Prim.Native.Nat.{ℕ, _≤_}
 use lib.ListN.{length}
 use Rattle.definition.specs.Lists.{column}
 use Rattle.definition.specs.Search.{Plan, Entry, Leaf, Input, State}
-use Rattle.candidate.specs.Store.{Lists, Store, Given, lists, store, counts, edges}
+use Rattle.store.specs.Counts.{counts}
+use Rattle.candidate.specs.Store.{Lists, Store, Given, lists, store, edges}
 
 -- what the definition's search is given, with these leaves and this limit
 abbrev pub inputFor : Given → List Leaf → ℕ → Input

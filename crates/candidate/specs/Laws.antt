@@ -1,76 +1,34 @@
 -- Laws of the store's definitions, one for each way through a function of the crate. Assumes nothing.
 use mathlib.Core.Path.{_≡_, refl, sym, ap, ap₂, _∙_}
-use mathlib.Core.List.{List, [], _∷_}
+use mathlib.Core.List.{List}
 use mathlib.Core.Bool.{Bool, true, false, false≢true}
-use Prim.Native.Nat.{ℕ, zero, suc, _+_, _<_, _≤_, min}
-use native.Mathlib.Nat.{min-le-left}
-use native.Mathlib.Numerals.{add-one}
-use native.Mathlib.Omega.{arith}
-use lib.ListN.{length, getD, take, drop, length-take, drop-of-length-le}
-use lib.Seq.{drop-cons, getD-take}
+use Prim.Native.Nat.{ℕ, _+_, _<_, _≤_}
+use lib.ListN.{getD}
 use lib.Bits.{bitOr}
 use lib.Dec.{ltb, eqb}
 use lib.Ieee.{Float}
 use borrow.Author.Tests.{eq-eqb, ne-eqb, lt-ltb, le-ltb, ltb-true}
-use Rattle.definition.specs.Answers.{plansFull, memoFull, visitsSpent}
+use Rattle.definition.specs.Answers.{plansFull, memoFull}
 use Rattle.nodeset.specs.Sets.{singleton}
 use Rattle.definition.specs.Question.{leaf}
 use Rattle.definition.specs.Hypergraph.{none32}
 use Rattle.definition.specs.Cost.{Estimate, product, candidateFrom, cheaper}
 use Rattle.definition.specs.Connection.{Connection, connection}
 use Rattle.nodeset.specs.declared.PlanId.{PlanId}
-use Rattle.candidate.specs.declared.DPhyp.{DPhyp}
+use Rattle.store.specs.declared.DPhyp.{DPhyp}
+use Rattle.store.specs.declared.Found.{Found}
+use Rattle.store.specs.declared.Found.the-variants.{At, Nothing}
+use Rattle.store.specs.declared.Kept.{Kept}
+use Rattle.store.specs.declared.Kept.the-variants.{Plan, Absent}
+use Rattle.store.specs.Counts.{counts}
+use Rattle.store.specs.Estimates.{estimateAt}
 use Rattle.candidate.specs.declared.Candidate.{Candidate}
 use Rattle.candidate.specs.declared.Place.{Place}
-use Rattle.candidate.specs.declared.Found.{Found}
-use Rattle.candidate.specs.declared.Found.the-variants.{At, Nothing}
-use Rattle.candidate.specs.declared.Kept.{Kept}
-use Rattle.candidate.specs.declared.Kept.the-variants.{Plan, Absent}
 use Rattle.candidate.specs.declared.Room.{Room}
 use Rattle.candidate.specs.declared.Room.the-variants.{Here, Full}
 use Rattle.candidate.specs.declared.Due.{Due}
 use Rattle.candidate.specs.declared.Due.the-variants.{Make, Stop, Skip}
-use Rattle.candidate.specs.Store.{Lists, Given, lists, store, counts, edges, spot, spotOf, visitOf, at, estimateAt, kindOf, leadKind, place, placeOf, made, placed, linked, paired, planFor, dueOf, written, applied, attempt, leafWritten}
-
-pub getD-any : {A : Type 0} (l : List A) (i : ℕ) (d e : A) → i < length l → getD l i d ≡ getD l i e
-getD-any [] i d e h = absurd (omega arith)
-getD-any (x ∷ l) zero d e h = refl
-getD-any (x ∷ l) (suc i) d e h = getD-any l i d e (omega arith)
-
--- ---- the memo, one entry more
-
-module _ (l : List ℕ) (n i s : ℕ) where
-  front : i < min n (length l) → drop i (take n l) ≡ getD l i 0 ∷ drop (suc i) (take n l)
-  front h =
-      let k : i < length (take n l) = omega (arith, length-take n l) in
-      let m = min-le-left n (length l) in
-      drop-cons (take n l) i 0 k ∙ ap (λ (x : ℕ). x ∷ drop (suc i) (take n l)) (getD-take n l i 0 (omega arith))
-
-  pub spot-here : i < min n (length l) → getD l i 0 ≡ s → At i ≡ spot i (drop i (take n l)) s
-  unfolding spot
-  spot-here h e = rw (front h, eq-eqb (getD l i 0) s e, spot)
-
-  pub spot-on : i < min n (length l) → (getD l i 0 ≡ s → ⊥) → spot (i + 1) (drop (i + 1) (take n l)) s ≡ spot i (drop i (take n l)) s
-  unfolding spot
-  spot-on h e = sym (rw (front h, ne-eqb (getD l i 0) s e, spot, add-one))
-
-  pub spot-end : min n (length l) ≤ i → Nothing ≡ spot i (drop i (take n l)) s
-  unfolding spot
-  spot-end h = let k : length (take n l) ≤ i = omega (arith, length-take n l) in rw (drop-of-length-le (take n l) k)
-
--- ---- a visit
-
-pub visit-stopped : (limit : ℕ) (p : DPhyp) → (p .stop ≡ 0 → ⊥) → p ≡ visitOf limit p
-unfolding visitOf
-visit-stopped limit p h = rw (ne-eqb _ _ h, visitOf)
-
-pub visit-under : (limit : ℕ) (p : DPhyp) → p .stop ≡ 0 → p .visits < limit → counts (p .plans) (p .memo) (p .visits + 1) 0 ≡ visitOf limit p
-unfolding visitOf
-visit-under limit p h l = rw (eq-eqb _ _ h, visitOf, lt-ltb _ _ l)
-
-pub visit-over : (limit : ℕ) (p : DPhyp) → p .stop ≡ 0 → limit ≤ p .visits → counts (p .plans) (p .memo) (p .visits) visitsSpent ≡ visitOf limit p
-unfolding visitOf
-visit-over limit p h l = rw (eq-eqb _ _ h, visitOf, le-ltb _ _ l)
+use Rattle.candidate.specs.Store.{Lists, Given, lists, store, edges, spotOf, at, kindOf, leadKind, place, placeOf, made, placed, linked, paired, planFor, dueOf, written, applied, attempt, leafWritten}
 
 -- ---- a candidate's kind
 

@@ -13,9 +13,10 @@ use Rattle.definition.specs.Hypergraph.{none32}
 use Rattle.definition.specs.Cost.{leafEstimate}
 use Rattle.definition.specs.Search.{Plan, Entry, Leaf, leafPlans, leafEntries, start}
 use Rattle.definition.specs.MemoLaws.{leafPlans-length}
-use Rattle.candidate.specs.declared.DPhyp.{DPhyp}
-use Rattle.candidate.specs.Store as S
-use Rattle.candidate.specs.Store.{Lists, Given, store, counts, leafWritten}
+use Rattle.store.specs.declared.DPhyp.{DPhyp}
+use Rattle.store.specs.Counts.{counts}
+use Rattle.store.specs.Estimates as estimates
+use Rattle.candidate.specs.Store.{Lists, Given, store, leafWritten}
 use Rattle.candidate.specs.Held.{inputFor, holding, Roomy}
 use Rattle.candidate.specs.Laws.{lists-eq}
 use Rattle.candidate.specs.CandidateHeld.{put}
@@ -46,8 +47,8 @@ module _ (g : Given) (h : Lists) (room : Roomy g h) where
   leaf-held ps m k l a b r s =
       lists-eq (plan (λ (p : Plan). p .set) (h .pset) 0 (room .pset)) (plan (λ (p : Plan). p .left) (h .pleft) 0 (room .pleft))
       (plan (λ (p : Plan). p .right) (h .pright) 0 (room .pright)) (plan (λ (p : Plan). p .lead) (h .plead) 0 (room .plead))
-      (plan (λ (p : Plan). p .kind) (h .pkind) 0 (room .pkind)) (plan (λ (p : Plan). p .estimate .rows) (h .prows) S.zero (room .prows))
-      (plan (λ (p : Plan). p .estimate .cost) (h .pcost) S.zero (room .pcost)) (noted (λ (e : Entry). e .set) (h .mset) (room .mset))
+      (plan (λ (p : Plan). p .kind) (h .pkind) 0 (room .pkind)) (plan (λ (p : Plan). p .estimate .rows) (h .prows) estimates.zero (room .prows))
+      (plan (λ (p : Plan). p .estimate .cost) (h .pcost) estimates.zero (room .pcost)) (noted (λ (e : Entry). e .set) (h .mset) (room .mset))
       (noted (λ (e : Entry). e .plan) (h .mplan) (room .mplan))
     where
       plan : {B : Type 0} (f : Plan → B) (xs : List B) (d : B) → g .planRoom ≤ length xs → set (column f ps xs) k (f (scan k l)) ≡ column f (ps ++ (scan k l ∷ [])) xs

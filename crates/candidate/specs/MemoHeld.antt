@@ -10,11 +10,11 @@ use lib.Seq.{take-at}
 use lib.Dec.{eqb}
 use borrow.Author.Tests.{eqb-true}
 use Rattle.definition.specs.Search.{Entry, find, replace}
-use Rattle.candidate.specs.declared.Found.{Found}
-use Rattle.candidate.specs.declared.Found.the-variants.{At, Nothing}
-use Rattle.candidate.specs.declared.Kept.{Kept}
-use Rattle.candidate.specs.declared.Kept.the-variants.{Plan, Absent}
-use Rattle.candidate.specs.Store.{spot, keptOf, planId}
+use Rattle.store.specs.declared.Found.{Found}
+use Rattle.store.specs.declared.Found.the-variants.{At, Nothing}
+use Rattle.store.specs.declared.Kept.{Kept}
+use Rattle.store.specs.declared.Kept.the-variants.{Plan, Absent}
+use Rattle.store.specs.Memo.{spot, keptOf, planId}
 
 abbrev pub sets : List Entry → List ℕ
 sets m = map (λ (e : Entry). e .set) m

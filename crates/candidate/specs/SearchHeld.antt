@@ -18,12 +18,14 @@ use Rattle.definition.specs.Search.{Plan, Leaf, Input, State, planAt, find, isS
 use Rattle.definition.specs.Walk.{solve}
 use Rattle.definition.specs.WalkLaws.{solve-rel}
 use Rattle.definition.specs.MemoLaws.{some-inj, winner, noted-same, noted-other, leafPlans-length, leaf-found}
-use Rattle.candidate.specs.declared.Found.{Found}
-use Rattle.candidate.specs.declared.Found.the-variants.{At, Nothing}
+use Rattle.store.specs.declared.Found.{Found}
+use Rattle.store.specs.declared.Found.the-variants.{At, Nothing}
+use Rattle.store.specs.Counts.{counts}
+use Rattle.store.specs.Memo.{spot, isAt}
+use Rattle.store.specs.Laws.{visit-stopped, visit-under, visit-over}
 use Rattle.candidate.specs.Store as S
-use Rattle.candidate.specs.Store.{Lists, Store, Given, store, edges, spot, isAt}
+use Rattle.candidate.specs.Store.{Lists, Store, Given, store, edges}
 use Rattle.candidate.specs.Held.{inputFor, holding, Roomy}
-use Rattle.candidate.specs.Laws.{visit-stopped, visit-under, visit-over}
 use Rattle.candidate.specs.MemoHeld.{sets, seated, unseated, spot-held}
 use Rattle.candidate.specs.CandidateHeld.{Named, attempt-held}
 
@@ -111,7 +113,7 @@ module _ (g : Given) (ls : List Leaf) (limit : ℕ) (h : Lists) (room : Roomy g 
       go false d y k = on st (rw (d, visit)) (ap (store (holding h st .held)) (sym (visit-stopped limit (holding h st .at) (eqb-false _ _ d)))) (r .1)
       go true d true k =
           on (record { tried = st .tried; plans = st .plans; memo = st .memo; visits = suc (st .visits); stop = 0 }) (rw (d, visit, k))
-          (ap (store (holding h st .held)) (sym (visit-under limit (holding h st .at) (eqb-true _ _ d) (ltb-true _ _ k)) ∙ ap (λ (v : ℕ). S.counts (length (st .plans)) (length (st .memo)) v 0) (add-one (st .visits)))) (r .1)
+          (ap (store (holding h st .held)) (sym (visit-under limit (holding h st .at) (eqb-true _ _ d) (ltb-true _ _ k)) ∙ ap (λ (v : ℕ). counts (length (st .plans)) (length (st .memo)) v 0) (add-one (st .visits)))) (r .1)
       go true d false k =
           on (stopped st visitsSpent) (rw (d, visit, k))
           (ap (store (holding h st .held)) (sym (visit-over limit (holding h st .at) (eqb-true _ _ d) (ltb-false _ _ k)))) (r .1)

@@ -1,28 +1,30 @@
 -- The state of the search as it lies in the lent lists: nine lists and four counts; and what kept, visit and attempt make of it.
 use mathlib.Core.Path.{_≡_}
-use mathlib.Core.List.{List, [], _∷_}
+use mathlib.Core.List.{List, []}
 use mathlib.Core.Bool.{Bool, true, false}
-use Prim.Native.Nat.{ℕ, suc, _+_}
+use Prim.Native.Nat.{ℕ, _+_}
 use lib.ListN.{getD, set, take}
 use lib.Dec.{ltb, eqb}
 use lib.Bits.{bitOr}
-use lib.Ieee.{Float, binary64, ofBits}
-use Rattle.definition.specs.Answers.{plansFull, memoFull, visitsSpent}
+use lib.Ieee.{Float}
+use Rattle.definition.specs.Answers.{plansFull, memoFull}
 use Rattle.nodeset.specs.Sets.{singleton}
 use Rattle.definition.specs.Question.{inner, crossProduct, leaf}
 use Rattle.definition.specs.Hypergraph.{Edge, none32}
 use Rattle.definition.specs.EdgeView.{edgesOf}
 use Rattle.definition.specs.Cost.{Estimate, product, candidateFrom, cheaper}
 use Rattle.definition.specs.Connection.{Connection, connection}
-use Rattle.nodeset.specs.declared.PlanId.{PlanId}
 use Rattle.cost.specs.declared.Estimate as declared
-use Rattle.candidate.specs.declared.DPhyp.{DPhyp}
+use Rattle.store.specs.declared.DPhyp.{DPhyp}
+use Rattle.store.specs.declared.Found.{Found}
+use Rattle.store.specs.declared.Found.the-variants.{At, Nothing}
+use Rattle.store.specs.declared.Kept.{Kept}
+use Rattle.store.specs.declared.Kept.the-variants.{Plan, Absent}
+use Rattle.store.specs.Counts.{counts, visitOf}
+use Rattle.store.specs.Memo.{spot, keptOf, isAt, planId}
+use Rattle.store.specs.Estimates.{estimateAt}
 use Rattle.candidate.specs.declared.Candidate.{Candidate}
 use Rattle.candidate.specs.declared.Place.{Place}
-use Rattle.candidate.specs.declared.Found.{Found}
-use Rattle.candidate.specs.declared.Found.the-variants.{At, Nothing}
-use Rattle.candidate.specs.declared.Kept.{Kept}
-use Rattle.candidate.specs.declared.Kept.the-variants.{Plan, Absent}
 use Rattle.candidate.specs.declared.Room.{Room}
 use Rattle.candidate.specs.declared.Room.the-variants.{Here, Full}
 use Rattle.candidate.specs.declared.Due.{Due}
@@ -49,9 +51,6 @@ pub record Store : Type 0 where
 abbrev pub store : Lists → DPhyp → Store
 store l p = record { held = l; at = p }
 
-abbrev pub counts : ℕ → ℕ → ℕ → ℕ → DPhyp
-counts plans memo visits stop = record { plans = plans; memo = memo; visits = visits; stop = stop }
-
 -- what the search is given beside its state: the first n edges, the items' kinds, the predicates' selectivities, the lengths of the stores
 pub record Given : Type 0 where
   pub n : ℕ
@@ -74,19 +73,6 @@ edges g = edgesOf (g .n) (g .left) (g .right) (g .predicate) (g .source) []
 
 -- ---- the memo
 
--- where s is in a list whose first place is number i
-unfoldable pub spot : ℕ → List ℕ → ℕ → Found
-spot i [] s = Nothing
-spot i (x ∷ l) s = elim (eqb x s) [ true ↦ At i | false ↦ spot (suc i) l s ]
-
-abbrev pub keptOf : List ℕ → Found → Kept
-keptOf mplan (At i) = Plan (record { 0 = getD mplan i 0 })
-keptOf mplan Nothing = Absent
-
-abbrev pub isAt : Found → Bool
-isAt (At i) = true
-isAt Nothing = false
-
 abbrev pub spotOf : Lists → DPhyp → ℕ → Found
 spotOf h p s = spot 0 (take (p .memo) (h .mset)) s
 
@@ -95,23 +81,10 @@ kept st s = isAt (spotOf (st .held) (st .at) s)
 
 -- ---- a visit
 
-unfoldable pub visitOf : ℕ → DPhyp → DPhyp
-visitOf limit p =
-    elim (eqb (p .stop) 0) [
-      | true ↦ elim (ltb (p .visits) limit) [ true ↦ counts (p .plans) (p .memo) (p .visits + 1) 0 | false ↦ counts (p .plans) (p .memo) (p .visits) visitsSpent ]
-      | false ↦ p
-    ]
-
 abbrev pub visit : ℕ → Store → Store
 visit limit st = store (st .held) (visitOf limit (st .at))
 
 -- ---- a candidate
-
-abbrev pub zero : Float
-zero = ofBits binary64 0
-
-abbrev pub estimateAt : List Float → List Float → ℕ → Estimate
-estimateAt prows pcost n = record { rows = getD prows n zero; cost = getD pcost n zero }
 
 -- k: the kind of the lead edge's source item
 unfoldable pub kindOf : Bool → ℕ → ℕ
@@ -119,9 +92,6 @@ kindOf filters k = elim filters [ true ↦ elim (eqb k crossProduct) [ true ↦ 
 
 abbrev pub leadKind : List ℕ → List ℕ → ℕ → ℕ
 leadKind source kinds lead = getD kinds (getD source lead 0) 0
-
-abbrev pub planId : ℕ → PlanId
-planId n = record { 0 = n }
 
 abbrev pub place : ℕ → ℕ → ℕ → Place
 place position best entries = record { position = position; best = planId best; entries = entries }

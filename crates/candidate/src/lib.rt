@@ -1,39 +1,22 @@
 // emit_csg_cmp of join_ordering.rs over the lent stores: is the pair due, and what is written for it. A store is one list for each field;
-// of a plan: pset, pleft, pright, plead, pkind, prows, pcost; of a memo entry: mset, mplan. Reads past a list's end give 0 and writes there
-// do nothing, so that no function asks for room.
+// of a plan: pset, pleft, pright, plead, pkind, prows, pcost; of a memo entry: mset, mplan. A plan or an entry past a list's end is not
+// written, so that no function asks for room.
 ghost use mathlib.Core.Path.{_≡_};
-ghost use mathlib.Core.List.{List};
-ghost use Prim.Native.Nat.{ℕ, _<_};
-ghost use lib.ListN.{getD, set, take};
+ghost use Prim.Native.Nat.{_<_};
+ghost use lib.ListN.{take};
 ghost use Rattle.cost.specs.View.{estimateOf};
 ghost use Rattle.definition.specs.EdgeView.{Held};
-ghost use Rattle.candidate.specs.Store.{given, lists, store, spot, keptOf, isAt, counts, visitOf, zero, estimateAt, kindOf, leadKind, placeOf, Decides, written, leafWritten, attempt};
+ghost use Rattle.store.specs.Memo.{spot};
+ghost use Rattle.candidate.specs.Store.{given, lists, store, kindOf, leadKind, placeOf, Decides, written, leafWritten, attempt};
 use cost::Estimate;
 use nodeset::NodeId;
 use nodeset::PlanId;
+use store::DPhyp;
+use store::Found;
+use store::Kept;
 
 // No edge.
 const NONE: u32 = 4294967295;
-
-// The search's counts: plans and memo entries written, and visits made. stop is 0 while the search goes on, and then its answer's number.
-pub struct DPhyp {
-    pub plans: u32,
-    pub memo: u32,
-    pub visits: u32,
-    pub stop: u32,
-}
-
-// Where the memo has a set: at a position, or not.
-pub enum Found {
-    At(u32),
-    Nothing,
-}
-
-// The plan kept for a set.
-pub enum Kept {
-    Plan(PlanId),
-    Absent,
-}
 
 // A candidate's memo entry: its position, the plan that it is to name, and the number of entries with it.
 pub struct Place {
@@ -63,139 +46,6 @@ pub enum Due {
     Skip,
 }
 
-impl DPhyp {
-    pub const PLANS_FULL: u32 = 12;
-
-    pub const MEMO_FULL: u32 = 13;
-
-    pub const VISITS_SPENT: u32 = 14;
-
-    // The search before its first visit, with a plan and a memo entry for each of n leaves.
-    pub fn new(n: u32) -> Self
-        ensures { λ r. ⌜ r ≡ counts n n 0 0 ⌝ }
-    {
-        Self {
-            plans: n,
-            memo: n,
-            visits: 0,
-            stop: 0,
-        }
-    }
-
-    // One visit more, or the stop at the limit.
-    pub fn visit(self, limit: u32) -> Self
-        ensures { λ r. ⌜ r ≡ visitOf limit self ⌝ }
-    {
-        let stop = self.stop;
-        let visits = self.visits;
-        if stop != 0 {
-            return self;
-        }
-        if visits < limit {
-            return Self {
-                plans: self.plans,
-                memo: self.memo,
-                visits: visits + 1,
-                stop: 0,
-            };
-        }
-        Self {
-            plans: self.plans,
-            memo: self.memo,
-            visits: visits,
-            stop: Self::VISITS_SPENT,
-        }
-    }
-}
-
-fn at32(s: &[u32], i: u32) -> u32
-    ensures { λ r. ⌜ r ≡ getD (now (s .entry)) i 0 ⌝ }
-{
-    let k = i as usize;
-    if k < s.len() { s[k] } else { 0 }
-}
-
-fn put64(s: &mut [u64], i: u32, v: u64)
-    ensures { λ r. ⌜ now (s .exit) ≡ set (now (s .entry)) i v ⌝ }
-{
-    let k = i as usize;
-    if k < s.len() {
-        s[k] = v;
-    }
-}
-
-fn put32(s: &mut [u32], i: u32, v: u32)
-    ensures { λ r. ⌜ now (s .exit) ≡ set (now (s .entry)) i v ⌝ }
-{
-    let k = i as usize;
-    if k < s.len() {
-        s[k] = v;
-    }
-}
-
-fn putf(s: &mut [f64], i: u32, v: f64)
-    ensures { λ r. ⌜ now (s .exit) ≡ set (now (s .entry)) i v ⌝ }
-{
-    let k = i as usize;
-    if k < s.len() {
-        s[k] = v;
-    }
-}
-
-// Where s stands among the first n places.
-pub fn find(mset: &[u64], n: u32, s: u64) -> Found
-    ensures { λ r. ⌜ r ≡ spot 0 (take n (now (mset .entry))) s ⌝ }
-{
-    let mut count = mset.len();
-    if (n as usize) < count {
-        count = n as usize;
-    }
-    let mut i: u32 = 0;
-    while (i as usize) < count {
-        if mset[i as usize] == s {
-            return Found::At(i);
-        }
-        i += 1;
-    }
-    Found::Nothing
-}
-
-// The plan that the memo keeps for s.
-pub fn kept_plan(mset: &[u64], mplan: &[u32], n: u32, s: u64) -> Kept
-    ensures { λ r. ⌜ r ≡ keptOf (now (mplan .entry)) (spot 0 (take n (now (mset .entry))) s) ⌝ }
-{
-    let Found::At(i) = find(mset, n, s) else {
-        return Kept::Absent;
-    };
-    Kept::Plan(PlanId(at32(mplan, i)))
-}
-
-// Whether the memo keeps a plan for s.
-pub fn is_kept(mset: &[u64], n: u32, s: u64) -> bool
-    ensures { λ r. ⌜ r ≡ isAt (spot 0 (take n (now (mset .entry))) s) ⌝ }
-{
-    let Found::At(_i) = find(mset, n, s) else {
-        return false;
-    };
-    true
-}
-
-fn atf(s: &[f64], k: usize) -> f64
-    ensures { λ r. ⌜ r ≡ getD (now (s .entry)) k zero ⌝ }
-{
-    if k < s.len() { s[k] } else { 0.0 }
-}
-
-fn estimate_at(prows: &[f64], pcost: &[f64], p: PlanId) -> Estimate
-    ensures { λ r. ⌜ estimateOf r ≡ estimateAt (now (prows .entry)) (now (pcost .entry)) (p .0) ⌝ }
-{
-    let k = p.0 as usize;
-    Estimate {
-        rows: atf(prows, k),
-        cost: atf(pcost, k),
-    }
-}
-
 // k: the kind of the lead edge's source item.
 fn candidate_kind(filters: bool, k: u32) -> u32
     ensures { λ r. ⌜ r ≡ kindOf filters k ⌝ }
@@ -212,7 +62,7 @@ fn candidate_kind(filters: bool, k: u32) -> u32
 fn lead_kind(source: &[u32], kinds: &[u32], lead: u32) -> u32
     ensures { λ r. ⌜ r ≡ leadKind (now (source .entry)) (now (kinds .entry)) lead ⌝ }
 {
-    at32(kinds, at32(source, lead))
+    store::at32(kinds, store::at32(source, lead))
 }
 
 // The memo's entry for plan number n of the set s, with this estimate.
@@ -229,7 +79,7 @@ fn find_place(
 ) -> Room
     ensures { λ r. ⌜ r ≡ placeOf (now (prows .entry)) (now (pcost .entry)) (now (mplan .entry)) memo room (n .0) (estimateOf e) (spot 0 (take memo (now (mset .entry))) s) ⌝ }
 {
-    let Found::At(i) = find(mset, memo, s) else {
+    let Found::At(i) = store::find(mset, memo, s) else {
         if memo < room {
             return Room::Here(Place {
                 position: memo,
@@ -239,8 +89,8 @@ fn find_place(
         }
         return Room::Full;
     };
-    let old = PlanId(at32(mplan, i));
-    if cost::cheaper(e, estimate_at(prows, pcost, old)) {
+    let old = PlanId(store::at32(mplan, i));
+    if cost::cheaper(e, store::estimate_at(prows, pcost, old)) {
         return Room::Here(Place {
             position: i,
             best: n,
@@ -282,14 +132,14 @@ pub fn decide(
     if stop != 0 {
         return Due::Skip;
     }
-    let Kept::Plan(l) = kept_plan(mset, mplan, memo, a) else {
+    let Kept::Plan(l) = store::kept_plan(mset, mplan, memo, a) else {
         return Due::Skip;
     };
-    let Kept::Plan(r) = kept_plan(mset, mplan, memo, b) else {
+    let Kept::Plan(r) = store::kept_plan(mset, mplan, memo, b) else {
         return Due::Skip;
     };
-    let x = estimate_at(prows, pcost, l);
-    let y = estimate_at(prows, pcost, r);
+    let x = store::estimate_at(prows, pcost, l);
+    let y = store::estimate_at(prows, pcost, r);
     let c = cost::connect(
         left,
         right,
@@ -352,15 +202,15 @@ pub fn write(
     let place = c.place;
     let k = place.position;
     let e = c.estimate;
-    put64(pset, at, s);
-    put32(pleft, at, c.left.0);
-    put32(pright, at, c.right.0);
-    put32(plead, at, c.lead);
-    put32(pkind, at, c.kind);
-    putf(prows, at, e.rows);
-    putf(pcost, at, e.cost);
-    put64(mset, k, s);
-    put32(mplan, k, place.best.0);
+    store::put64(pset, at, s);
+    store::put32(pleft, at, c.left.0);
+    store::put32(pright, at, c.right.0);
+    store::put32(plead, at, c.lead);
+    store::put32(pkind, at, c.kind);
+    store::putf(prows, at, e.rows);
+    store::putf(pcost, at, e.cost);
+    store::put64(mset, k, s);
+    store::put32(mplan, k, place.best.0);
 }
 
 // Tries the pair of sets a and b.

@@ -82,7 +82,7 @@ fn edge_merges(classes: &[u64], l: u64, r: u64, skip: u64) -> bool
 }
 
 // One round over the first n edges. Whether any merged.
-fn pass<'a>(classes: &mut [u64], left: &'a [u64], right: &'a [u64], n: usize, skip: u64) -> bool
+fn pass(classes: &mut [u64], left: &[u64], right: &[u64], n: usize, skip: u64) -> bool
     requires { ⌜ (length (now classes) ≡ 64) × (n ≤ length (now left)) × (n ≤ length (now right)) ⌝ }
     ensures after { λ r. ⌜ now (classes .exit) ≡ round skip (take n (now (left .entry))) (take n (now (right .entry))) (now (classes .entry)) ⌝ }
     ensures same { λ r. ⌜ (r ≡ false → now (classes .exit) ≡ now (classes .entry)) ⌝ }
@@ -102,7 +102,7 @@ fn pass<'a>(classes: &mut [u64], left: &'a [u64], right: &'a [u64], n: usize, sk
 }
 
 // Rounds over the first n edges until nothing changes.
-fn settle<'a>(classes: &mut [u64], left: &'a [u64], right: &'a [u64], n: usize, skip: u64)
+fn settle(classes: &mut [u64], left: &[u64], right: &[u64], n: usize, skip: u64)
     requires { ⌜ (length (now classes) ≡ 64) × (n ≤ length (now left)) × (n ≤ length (now right)) ⌝ }
     ensures { λ r. ⌜ now (classes .exit) ≡ rounds n skip (take n (now (left .entry))) (take n (now (right .entry))) (now (classes .entry)) ⌝ }
 {
@@ -116,7 +116,7 @@ fn settle<'a>(classes: &mut [u64], left: &'a [u64], right: &'a [u64], n: usize, 
 }
 
 // Whether a and b are connected by the first n edges, those whose union is skip passed over.
-pub fn connected<'a>(left: &'a [u64], right: &'a [u64], n: usize, a: u64, b: u64, skip: u64) -> bool
+pub fn connected(left: &[u64], right: &[u64], n: usize, a: u64, b: u64, skip: u64) -> bool
     requires { ⌜ (n ≤ length (now left)) × (n ≤ length (now right)) ⌝ }
     ensures { λ r. ⌜ r ≡ connected (take n (now (left .entry))) (take n (now (right .entry))) a b skip ⌝ }
 {

@@ -9,9 +9,12 @@ use Rattle.nodeset.specs.Sets.{singleton, allBelow, upToLowest}
 use Rattle.nodeset.specs.Subsets.{nonEmptySubsets, singletons}
 use Rattle.definition.specs.Hypergraph.{neighborhood, hasEdge}
 use Rattle.definition.specs.Walk.{each, tryConnected, enumerateCmpRec, emitCsg, emitKept, enumerateCsgRec, solveFrom}
-use Rattle.candidate.specs.declared.DPhyp.{DPhyp}
-use Rattle.candidate.specs.Store.{Lists, Store, Given, store, edges, spot, isAt, kept, visit, visitOf, attempt}
-use Rattle.candidate.specs.Laws.{visit-stopped, due-stopped, attempt-skip}
+use Rattle.store.specs.declared.DPhyp.{DPhyp}
+use Rattle.store.specs.Counts.{visitOf}
+use Rattle.store.specs.Memo.{spot, isAt}
+use Rattle.store.specs.Laws.{visit-stopped}
+use Rattle.candidate.specs.Store.{Lists, Store, Given, store, edges, kept, visit, attempt}
+use Rattle.candidate.specs.Laws.{due-stopped, attempt-skip}
 use Rattle.dphyp.specs.Walks.{countAfter, storeCmpRec, storeEmit, storeCsgRec, storeFrom, visitTry, visitTries, visitCmp, storeTry, tryNeighbor, visitEmit, visitEmits, visitCsg, solveLeaf}
 use Rattle.dphyp.specs.Stepping.{Frozen, each-frozen, count-next, count-end}
 

@@ -12,7 +12,8 @@ use Rattle.nodeset.specs.Subsets.{nonEmptySubsets, nextSubset}
 use Rattle.definition.specs.Hypergraph.{hasEdge}
 use Rattle.definition.specs.EdgeView.{edgesOf}
 use Rattle.definition.specs.Walk.{each, tryConnected, enumerateCmpRec, tryEdge, emitCsg, emitKept, enumerateCsgRec, solveFrom, solve}
-use Rattle.candidate.specs.Store.{Store, Given, edges, spot, isAt, kept, visit, attempt}
+use Rattle.store.specs.Memo.{spot, isAt}
+use Rattle.candidate.specs.Store.{Store, Given, edges, kept, visit, attempt}
 
 -- ---- the definition's functions
 

@@ -5,7 +5,7 @@ ghost use lib.ListN.{length};
 ghost use Rattle.definition.specs.EdgeView.{Held};
 ghost use Rattle.candidate.specs.Store.{given, lists, store};
 ghost use Rattle.dphyp.specs.Walks.{storeCmpRec, visitTry, visitTries, Joins, subsetAfter};
-use candidate::DPhyp;
+use store::DPhyp;
 
 // The subset of s after t, in rising order; 0 after the last and where stopped.
 pub fn subset_after(s: u64, t: u64, stop: u32) -> u64
@@ -22,7 +22,7 @@ fn joins(left: &[u64], right: &[u64], n: u32, mset: &[u64], memo: u32, s1: u64, 
     requires { ⌜ (n ≤ length (now left)) × (n ≤ length (now right)) ⌝ }
     ensures { λ r. ⌜ Joins n (now (left .entry)) (now (right .entry)) (now (mset .entry)) memo s1 c r ⌝ }
 {
-    if candidate::is_kept(mset, memo, c) {
+    if store::is_kept(mset, memo, c) {
         return graph::has_edge(left, right, n, s1, c);
     }
     false

@@ -4,7 +4,7 @@ ghost use Rattle.definition.specs.EdgeView.{Held};
 ghost use Rattle.candidate.specs.Store.{given, lists, store};
 ghost use Rattle.dphyp.specs.Walks.{storeEmit, storeCsgRec, storeTry, tryNeighbor, visitEmit, visitEmits, leavesAfter};
 use super::cmp;
-use candidate::DPhyp;
+use store::DPhyp;
 
 // The leaves of s without those of v; none where stopped.
 fn leaves_after(s: u64, v: u64, stop: u32) -> u64
@@ -249,7 +249,7 @@ fn visit_emit(
 {
     let q = p.visit(limit);
     let c = s1 | t;
-    if candidate::is_kept(mset, q.memo, c) {
+    if store::is_kept(mset, q.memo, c) {
         return emit_csg(
             left,
             right,

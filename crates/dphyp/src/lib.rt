@@ -9,8 +9,8 @@ ghost use mathlib.Core.Path.{_≡_};
 ghost use Rattle.definition.specs.EdgeView.{Held};
 ghost use Rattle.candidate.specs.Store.{given, lists, store};
 ghost use Rattle.dphyp.specs.Walks.{storeSolve, solveLeaf, countAfter};
-use candidate::DPhyp;
 use nodeset::NodeId;
+use store::DPhyp;
 
 // j leaves are left to do; none where stopped.
 fn count_after(j: u32, stop: u32) -> u32

@@ -1,3 +1,4 @@
-pub mod Builds
-pub mod Laws
-pub mod ItemLaws
+-- Definitions.
+pub mod Walk
+-- Laws.
+pub mod WalkLaws

@@ -2,79 +2,12 @@
 // first; then the sheet. Prints the last call's answer number, edges, plans, memo entries, visits and chosen plan.
 use libc::STDIN_FILENO;
 use libc::STDOUT_FILENO;
-use planner::Answer;
-use planner::Outcome;
-use planner::Refusal;
+use planner::Report;
 use search::Ending;
 ghost use Prim.Native.Nat.{_<_};
 
-// No chosen plan.
-const NONE: u32 = 4294967295;
 // The visit limit.
 const LIMIT: u32 = 4294967295;
-
-struct Numbers {
-    answer: u32,
-    edges: u32,
-    plans: u32,
-    memo: u32,
-    visits: u32,
-    chosen: u32,
-}
-
-fn refusal_number(f: Refusal) -> u32 {
-    match f {
-        Refusal::Sheet(g) => g.number(),
-        Refusal::TooManyEdges => 10,
-        Refusal::StoreTooSmall => 11,
-    }
-}
-
-fn ending_number(e: Ending) -> u32 {
-    match e {
-        Ending::Planned(_) => 0,
-        Ending::NoPlan => 15,
-        Ending::PlansFull => 12,
-        Ending::MemoFull => 13,
-        Ending::VisitsSpent => 14,
-    }
-}
-
-fn chosen_plan(e: Ending) -> u32 {
-    match e {
-        Ending::Planned(n) => n.0,
-        Ending::NoPlan => NONE,
-        Ending::PlansFull => NONE,
-        Ending::MemoFull => NONE,
-        Ending::VisitsSpent => NONE,
-    }
-}
-
-fn ended(o: Outcome) -> Numbers {
-    let e = o.ending;
-    Numbers {
-        answer: ending_number(e),
-        edges: o.edges,
-        plans: o.plans,
-        memo: o.memo,
-        visits: o.visits,
-        chosen: chosen_plan(e),
-    }
-}
-
-fn numbers_of(a: Answer) -> Numbers {
-    match a {
-        Answer::Refused(f) => Numbers {
-            answer: refusal_number(f),
-            edges: 0,
-            plans: 0,
-            memo: 0,
-            visits: 0,
-            chosen: NONE,
-        },
-        Answer::Ended(o) => ended(o),
-    }
-}
 
 // One call. Its contract says nothing of the stores: only the numbers are printed.
 fn plan_once(
@@ -93,8 +26,8 @@ fn plan_once(
     pcost: &mut [f64],
     mset: &mut [u64],
     mplan: &mut [u32],
-) -> Numbers {
-    numbers_of(planner::plan(
+) -> Report {
+    planner::plan(
         sheet,
         LIMIT,
         eleft,
@@ -111,7 +44,7 @@ fn plan_once(
         pcost,
         mset,
         mplan,
-    ))
+    ).report()
 }
 
 fn repeat(
@@ -131,14 +64,14 @@ fn repeat(
     pcost: &mut [f64],
     mset: &mut [u64],
     mplan: &mut [u32],
-) -> Numbers {
-    let mut last = Numbers {
+) -> Report {
+    let mut last = Report {
         answer: 0,
         edges: 0,
         plans: 0,
         memo: 0,
         visits: 0,
-        chosen: NONE,
+        chosen: Ending::NONE,
     };
     let mut left = rounds;
     while 0 < left {
@@ -169,7 +102,7 @@ fn print_number(n: u32, after: &[u8]) {
     io::write_all(STDOUT_FILENO, after);
 }
 
-fn print(r: Numbers) {
+fn print(r: Report) {
     print_number(r.answer, b" ");
     print_number(r.edges, b" ");
     print_number(r.plans, b" ");

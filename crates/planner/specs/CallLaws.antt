@@ -6,13 +6,15 @@ use native.Mathlib.Omega.{arith}
 use Rattle.definition.specs.Sheet.{questionOf}
 use Rattle.definition.specs.Call.{Rooms, Outcome, refusedWith, refusal, inputOf, searched, call}
 use Rattle.sheet.specs.Placing.{positive}
-use Rattle.planner.specs.declared.Refusal.{Refusal}
-use Rattle.planner.specs.declared.Refusal.the-variants.{Sheet, TooManyEdges, StoreTooSmall}
-use Rattle.planner.specs.declared.Question.{Question}
-use Rattle.planner.specs.declared.Checked.{Checked}
-use Rattle.planner.specs.declared.Checked.the-variants as checked
+use Rattle.checks.specs.declared.Refusal.{Refusal}
+use Rattle.checks.specs.declared.Refusal.the-variants.{Sheet, TooManyEdges, StoreTooSmall}
+use Rattle.checks.specs.declared.Question.{Question}
+use Rattle.checks.specs.declared.Checked.{Checked}
+use Rattle.checks.specs.declared.Checked.the-variants as checked
 use Rattle.planner.specs.declared.Answer.the-variants as answer
-use Rattle.planner.specs.Answers.{Reported, reported, reportedOf, refusalNumber, checkedNumber}
+use Rattle.checks.specs.Answers.{refusalNumber, checkedNumber}
+use Rattle.planner.specs.declared.Report.{Report}
+use Rattle.planner.specs.Answers.{reported, reportedOf}
 use Rattle.planner.specs.Lent.{Lent, roomsIn, holds}
 
 refusal-positive : (f : Refusal) → 0 < refusalNumber f
@@ -54,7 +56,7 @@ module _ (bs : List ℕ) (limit : ℕ) (x : Checked) (h : Lent) (rooms : Rooms) 
         ap (λ (r : Rooms). searched (inputOf (questionOf bs) r limit)) same
         ∙ sym (rw (sym (ap (refusedWith bs) same) ∙ call-accepted, call))
 
-    pub accepted-answer : {r : Reported} → r ≡ reported (searched (inputOf (questionOf bs) rooms limit)) → r ≡ reported o
+    pub accepted-answer : {r : Report} → r ≡ reported (searched (inputOf (questionOf bs) rooms limit)) → r ≡ reported o
     accepted-answer f = f ∙ ap reported call-searched
 
     pub accepted-lists : {l : Lent} → l ≡ holds (searched (inputOf (questionOf bs) rooms limit)) h → l ≡ holds o h

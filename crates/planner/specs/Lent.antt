@@ -7,30 +7,12 @@ use lib.Ieee.{Float}
 use Rattle.definition.specs.Lists.{column}
 use Rattle.definition.specs.Question as question
 use Rattle.definition.specs.Question.{Item, Predicate}
-use Rattle.definition.specs.Hypergraph.{Edge}
 use Rattle.definition.specs.Search.{Plan, Entry}
 use Rattle.definition.specs.Call.{Rooms, roomsOf, Outcome, refusedWith, leavesIn}
 use Rattle.sheet.specs.Views.{sectionsOf}
+use Rattle.builder.specs.Builds.{EdgeLists, edgeLists, edgesHeld}
 use Rattle.candidate.specs.Store.{Lists, Given, lists, given}
-use Rattle.planner.specs.declared.Question.{Question}
-
-pub record EdgeLists : Type 0 where
-  pub left : List ℕ
-  pub right : List ℕ
-  pub predicate : List ℕ
-  pub source : List ℕ
-  pub kind : List ℕ
-
-abbrev pub edgeLists : List ℕ → List ℕ → List ℕ → List ℕ → List ℕ → EdgeLists
-edgeLists a b c d e = record { left = a; right = b; predicate = c; source = d; kind = e }
-
--- no list is shorter than x
-pub record Longer (x : ℕ) (h : EdgeLists) : Type 0 where
-  pub left : x ≤ length (h .left)
-  pub right : x ≤ length (h .right)
-  pub predicate : x ≤ length (h .predicate)
-  pub source : x ≤ length (h .source)
-  pub kind : x ≤ length (h .kind)
+use Rattle.checks.specs.declared.Question.{Question}
 
 -- "A store is one lent list for each field": the edges', and those of the plans and the memo
 pub record Lent : Type 0 where
@@ -48,16 +30,6 @@ roomsIn h =
     roomsOf (length (e .left) ∷ length (e .right) ∷ length (e .predicate) ∷ length (e .source) ∷ length (e .kind) ∷ [])
     (length (p .pset) ∷ length (p .pleft) ∷ length (p .pright) ∷ length (p .plead) ∷ length (p .pkind) ∷ length (p .prows) ∷ length (p .pcost) ∷ [])
     (length (p .mset) ∷ length (p .mplan) ∷ [])
-
-abbrev pub edgesHeld : List Edge → EdgeLists → EdgeLists
-edgesHeld es h =
-    record {
-      left = column (λ (e : Edge). e .left) es (h .left);
-      right = column (λ (e : Edge). e .right) es (h .right);
-      predicate = column (λ (e : Edge). e .predicate) es (h .predicate);
-      source = column (λ (e : Edge). e .source) es (h .source);
-      kind = column (λ (e : Edge). e .type) es (h .kind);
-    }
 
 abbrev pub plansHeld : List Plan → List Entry → Lists → Lists
 plansHeld ps m h =

@@ -4,8 +4,6 @@ pub mod Lent
 pub mod ReadBack
 pub mod Rules
 -- Laws.
-pub mod AnswerLaws
-pub mod RoomLaws
 pub mod RunLaws
 pub mod CallLaws
 pub mod ReadBackLaws

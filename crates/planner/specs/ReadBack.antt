@@ -6,8 +6,9 @@ use Rattle.definition.specs.EdgeView.{edgesOf}
 use Rattle.definition.specs.Search.{Plan, Entry}
 use Rattle.definition.specs.PlanRule.{pairsIn}
 use Rattle.definition.specs.Call.{Outcome}
-use Rattle.candidate.specs.Store.{Lists, estimateAt}
-use Rattle.planner.specs.Answers.{Reported}
+use Rattle.store.specs.Estimates.{estimateAt}
+use Rattle.candidate.specs.Store.{Lists}
+use Rattle.planner.specs.declared.Report.{Report}
 use Rattle.planner.specs.Lent.{Lent}
 
 abbrev pub planIn : Lists → ℕ → Plan
@@ -25,7 +26,7 @@ abbrev pub entryIn : Lists → ℕ → Entry
 entryIn h i = record { set = getD (h .mset) i 0; plan = getD (h .mplan) i 0 }
 
 -- as many entries as the answer counts. n: the number of leaves; the pairs tried are those that the plans' fields name
-abbrev pub readBack : ℕ → Reported → Lent → Outcome
+abbrev pub readBack : ℕ → Report → Lent → Outcome
 readBack n r h =
     let e = h .edges in
     let plans = tabulate (r .plans) (planIn (h .plans)) in

@@ -14,10 +14,11 @@ use Rattle.definition.specs.EdgeView.{edgeAt, edgesOf}
 use Rattle.definition.specs.Search.{Plan, Entry, Pair, absent}
 use Rattle.definition.specs.PlanRule.{pairsIn}
 use Rattle.definition.specs.Call.{Outcome}
-use Rattle.candidate.specs.Store as S
+use Rattle.store.specs.Estimates as estimates
 use Rattle.candidate.specs.Store.{Lists}
 use Rattle.planner.specs.Answers.{reported}
-use Rattle.planner.specs.Lent.{Lent, EdgeLists, edgesHeld, plansHeld, holds}
+use Rattle.builder.specs.Builds.{EdgeLists, edgesHeld}
+use Rattle.planner.specs.Lent.{Lent, plansHeld, holds}
 use Rattle.planner.specs.ReadBack.{planIn, entryIn, readBack}
 
 -- a field's list has each entry's field at the entry's place
@@ -78,8 +79,8 @@ module _ (ps : List Plan) (m : List Entry) (h : Lists) where
       (front (λ (p : Plan). p .right) ps (drop (length ps) (h .pright)) absent 0 i z)
       (front (λ (p : Plan). p .lead) ps (drop (length ps) (h .plead)) absent 0 i z)
       (front (λ (p : Plan). p .kind) ps (drop (length ps) (h .pkind)) absent 0 i z)
-      (front (λ (p : Plan). p .estimate .rows) ps (drop (length ps) (h .prows)) absent S.zero i z)
-      (front (λ (p : Plan). p .estimate .cost) ps (drop (length ps) (h .pcost)) absent S.zero i z))
+      (front (λ (p : Plan). p .estimate .rows) ps (drop (length ps) (h .prows)) absent estimates.zero i z)
+      (front (λ (p : Plan). p .estimate .cost) ps (drop (length ps) (h .pcost)) absent estimates.zero i z))
 
   memo-back : tabulate (length m) (entryIn lists) ≡ m
   memo-back =

@@ -9,13 +9,14 @@ use Rattle.definition.specs.OpenRule.{OpenListRule, SameOpenBytes, Selectivitie
 use Rattle.definition.specs.OpenRuleLaws.{open-list-rule}
 use Rattle.definition.specs.PlanRule.{CallPlanRule, AllFinite}
 use Rattle.definition.specs.PlanRuleLaws.{plan-rule, call-finite, call-pairs}
-use Rattle.planner.specs.Answers.{Reported, reported}
+use Rattle.planner.specs.declared.Report.{Report}
+use Rattle.planner.specs.Answers.{reported}
 use Rattle.planner.specs.Lent.{Lent, roomsIn, holds}
 use Rattle.planner.specs.ReadBack.{readBack}
 use Rattle.planner.specs.ReadBackLaws.{read-back}
 use Rattle.planner.specs.Rules.{OpenList, KeptPlans, FiniteCosts}
 
-module _ (bs : List ℕ) (bytes : Bytes bs) (limit : ℕ) (h : Lent) (r : Reported) (l : Lent)
+module _ (bs : List ℕ) (bytes : Bytes bs) (limit : ℕ) (h : Lent) (r : Report) (l : Lent)
     (answer : r ≡ reported (call bs (roomsIn h) limit)) (lists : l ≡ holds (call bs (roomsIn h) limit) h) where
   abbrev o : Outcome
   o = call bs (roomsIn h) limit
@@ -34,7 +35,7 @@ module _ (bs : List ℕ) (bytes : Bytes bs) (limit : ℕ) (h : Lent) (r : Report
 
 -- two calls, on sheets that differ only in leaf rows and selectivities, with lists equally long and the same limit, whatever these held before
 pub two-calls : (bs cs : List ℕ) → Bytes bs → Bytes cs → SameOpenBytes bs cs → SelectivitiesFit cs → (limit : ℕ) (h k : Lent) → roomsIn h ≡ roomsIn k → accepted bs (roomsIn h) ≡ true
-    → (r s : Reported) (l m : Lent) → r ≡ reported (call bs (roomsIn h) limit) → l ≡ holds (call bs (roomsIn h) limit) h
+    → (r s : Report) (l m : Lent) → r ≡ reported (call bs (roomsIn h) limit) → l ≡ holds (call bs (roomsIn h) limit) h
     → s ≡ reported (call cs (roomsIn k) limit) → m ≡ holds (call cs (roomsIn k) limit) k
     → (accepted cs (roomsIn k) ≡ true) × (openPart (leavesIn bs) (readBack (leavesIn bs) r l) ≡ openPart (leavesIn cs) (readBack (leavesIn cs) s m))
 two-calls bs cs b c same fit limit h k rooms a r s l m ra la sa ma =

@@ -29,12 +29,13 @@ use Rattle.candidate.specs.Store.{Lists, Store, Given, store, given, edges}
 use Rattle.candidate.specs.Held.{inputFor, holding, Roomy}
 use Rattle.search.specs.View.{Ready, Ends, endingNumber, chosenOf}
 use Rattle.search.specs.declared.Searched.{Searched}
-use Rattle.planner.specs.declared.Question.{Question}
+use Rattle.checks.specs.declared.Question.{Question}
 use Rattle.planner.specs.declared.Outcome.{Outcome}
 use Rattle.planner.specs.Answers.{reported, endedAs}
-use Rattle.planner.specs.Lent.{Lent, EdgeLists, edgeLists, roomsIn, edgesHeld, holds, Longer, givenFor, Runs}
+use Rattle.builder.specs.Builds.{EdgeLists, edgeLists, edgesHeld, Longer}
+use Rattle.planner.specs.Lent.{Lent, roomsIn, holds, givenFor, Runs}
 use Rattle.planner.specs.ReadBackLaws.{front, read-all}
-use Rattle.planner.specs.RoomLaws.{store-first, store-rest, Room, not-refused}
+use Rattle.checks.specs.RoomLaws.{store-first, store-rest, Room, not-refused}
 
 -- ---- a store is no longer than each of its lists
 
@@ -76,9 +77,6 @@ roomy g h e f =
       mset = first-of _ _ m;
       mplan = first-of _ _ n;
     }
-
-pub edge-lists-eq : {a b c d e f g h i j : List ℕ} → a ≡ f → b ≡ g → c ≡ h → d ≡ i → e ≡ j → edgeLists a b c d e ≡ edgeLists f g h i j
-edge-lists-eq p q r s t = cc
 
 -- ---- edges read from the lists that hold them
 

@@ -1,6 +1,5 @@
 // The planner's call: a sheet's bytes, a visit limit and the lent lists to an answer. Every sheet, list length and limit gets one. The edge
 // lists are eleft to ekind, the plan lists pset to pcost, the memo lists mset and mplan.
-mod checks;
 mod run;
 
 ghost use mathlib.Core.Path.{_≡_};
@@ -8,16 +7,10 @@ ghost use Rattle.definition.specs.Call.{defaultLimit, call};
 ghost use Rattle.planner.specs.Answers.{reported, reportedOf};
 ghost use Rattle.planner.specs.Lent.{lent, roomsIn, holds};
 ghost use Rattle.planner.specs.Rules.{OpenList, KeptPlans, FiniteCosts};
+use checks::Checked;
+use checks::Refusal;
+use checks::Rooms;
 use search::Ending;
-use sheet::Fault;
-use sheet::Sections;
-
-// Why nothing is searched and nothing written.
-pub enum Refusal {
-    Sheet(Fault),
-    TooManyEdges,
-    StoreTooSmall,
-}
 
 // How the search ended, how many entries were written, and the visits made.
 pub struct Outcome {
@@ -33,32 +26,47 @@ impl Outcome {
     pub const VISITS: u32 = 1000000;
 }
 
+// An answer in document 01's numbers.
+pub struct Report {
+    pub answer: u32,
+    pub edges: u32,
+    pub plans: u32,
+    pub memo: u32,
+    pub visits: u32,
+    pub chosen: u32,
+}
+
 pub enum Answer {
     Refused(Refusal),
     Ended(Outcome),
 }
 
-// The lengths of the three stores.
-struct Rooms {
-    pub edges: u32,
-    pub plans: u32,
-    pub memo: u32,
-}
-
-impl Rooms {
-    // A store that is longer counts as one of this length.
-    pub const LONGEST: usize = 16777216;
-}
-
-// Where an accepted sheet's tables stand, and how many leaves it has.
-struct Question {
-    pub sections: Sections,
-    pub leaves: u32,
-}
-
-enum Checked {
-    Refused(Refusal),
-    Accepted(Question),
+impl Answer {
+    pub fn report(self) -> Report
+        ensures { λ r. ⌜ r ≡ reportedOf self ⌝ }
+    {
+        match self {
+            Answer::Refused(f) => Report {
+                answer: f.number(),
+                edges: 0,
+                plans: 0,
+                memo: 0,
+                visits: 0,
+                chosen: Ending::NONE,
+            },
+            Answer::Ended(o) => {
+                let ending = o.ending;
+                Report {
+                    answer: ending.number(),
+                    edges: o.edges,
+                    plans: o.plans,
+                    memo: o.memo,
+                    visits: o.visits,
+                    chosen: ending.chosen(),
+                }
+            }
+        }
+    }
 }
 
 // Plans the joins of a sheet within limit visits.

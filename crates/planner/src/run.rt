@@ -1,44 +1,19 @@
-// What is done for an accepted sheet: its edges are built and handed over, its leaves and tables read, and the search is run.
+// What is done for an accepted sheet: its edges are built, its leaves and tables read, and the search is run.
 use crate::Outcome;
-use crate::Question;
-use crate::Rooms;
+use checks::Question;
+use checks::Rooms;
 use search::Searched;
-use sheet::Sections;
 ghost use mathlib.Core.Path.{_≡_};
-ghost use Prim.Native.Nat.{_≤_};
-ghost use lib.ListN.{length};
-ghost use Rattle.definition.specs.Question.{openQuestion};
 ghost use Rattle.definition.specs.Sheet.{questionOf};
-ghost use Rattle.definition.specs.Accepted.{Sound};
-ghost use Rattle.definition.specs.Edges.{buildHypergraph, edgeCount};
 ghost use Rattle.definition.specs.Search.{search};
 ghost use Rattle.definition.specs.Call.{leavesIn, leavesOf, inputOf, searched};
 ghost use Rattle.sheet.specs.Views.{Placed};
 ghost use Rattle.candidate.specs.Store.{lists, store};
 ghost use Rattle.candidate.specs.Held.{inputFor, holding};
 ghost use Rattle.search.specs.View.{Ready, Ends};
-ghost use Rattle.planner.specs.Answers.{reported, endedAs, roomsOf};
-ghost use Rattle.planner.specs.Lent.{lent, edgeLists, edgesHeld, holds, Longer, givenFor, Runs};
-
-// The edges go to their lists. Answers how many there are.
-fn write_edges(
-    sheet: &[u8],
-    s: Sections,
-    eleft: &mut [u64],
-    eright: &mut [u64],
-    epredicate: &mut [u32],
-    esource: &mut [u32],
-    ekind: &mut [u32],
-) -> u32
-    requires { ⌜ Placed (now sheet) s × Sound (questionOf (now sheet)) × (edgeCount (openQuestion (questionOf (now sheet)) .items) ≤ 256) × Longer (edgeCount (openQuestion (questionOf (now sheet)) .items)) (edgeLists (now eleft) (now eright) (now epredicate) (now esource) (now ekind)) ⌝ }
-    ensures count { λ r. ⌜ r ≡ length (buildHypergraph (openQuestion (questionOf (now (sheet .entry))))) ⌝ }
-    ensures lists { λ r. ⌜ edgeLists (now (eleft .exit)) (now (eright .exit)) (now (epredicate .exit)) (now (esource .exit)) (now (ekind .exit)) ≡ edgesHeld (buildHypergraph (openQuestion (questionOf (now (sheet .entry))))) (edgeLists (now (eleft .entry)) (now (eright .entry)) (now (epredicate .entry)) (now (esource .entry)) (now (ekind .entry))) ⌝ }
-{
-    let b = hypergraph::build_hypergraph(sheet, s);
-    let n = b.edges as u32;
-    b.hand_over(eleft, eright, epredicate, esource, ekind);
-    n
-}
+ghost use Rattle.checks.specs.Answers.{roomsOf};
+ghost use Rattle.planner.specs.Answers.{reported, endedAs};
+ghost use Rattle.planner.specs.Lent.{lent, holds, givenFor, Runs};
 
 // The search over the first n edges, the sheet's leaves and its tables.
 fn search_plans(
@@ -124,7 +99,15 @@ pub fn run(
     ensures answer { λ r. ⌜ endedAs r ≡ reported (searched (inputOf (questionOf (now (sheet .entry))) (roomsOf rooms) limit)) ⌝ }
     ensures lists { λ r. ⌜ lent (now (eleft .exit)) (now (eright .exit)) (now (epredicate .exit)) (now (esource .exit)) (now (ekind .exit)) (now (pset .exit)) (now (pleft .exit)) (now (pright .exit)) (now (plead .exit)) (now (pkind .exit)) (now (prows .exit)) (now (pcost .exit)) (now (mset .exit)) (now (mplan .exit)) ≡ holds (searched (inputOf (questionOf (now (sheet .entry))) (roomsOf rooms) limit)) (lent (now (eleft .entry)) (now (eright .entry)) (now (epredicate .entry)) (now (esource .entry)) (now (ekind .entry)) (now (pset .entry)) (now (pleft .entry)) (now (pright .entry)) (now (plead .entry)) (now (pkind .entry)) (now (prows .entry)) (now (pcost .entry)) (now (mset .entry)) (now (mplan .entry))) ⌝ }
 {
-    let n = write_edges(sheet, q.sections, eleft, eright, epredicate, esource, ekind);
+    let n = hypergraph::build_hypergraph(
+        sheet,
+        q.sections,
+        eleft,
+        eright,
+        epredicate,
+        esource,
+        ekind,
+    );
     let r = search_plans(
         sheet,
         q,

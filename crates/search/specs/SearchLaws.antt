@@ -12,8 +12,9 @@ use Rattle.definition.specs.Hypergraph.{none32}
 use Rattle.definition.specs.ListLaws.{length-tabulate, tabulate-at, tabulate-end}
 use Rattle.definition.specs.Search.{Leaf, Input, search, find}
 use Rattle.definition.specs.StopLaws.{search-stop}
-use Rattle.candidate.specs.declared.DPhyp.{DPhyp}
-use Rattle.candidate.specs.Store.{Given, Lists, Store, store, counts, planFor, leafWritten}
+use Rattle.store.specs.declared.DPhyp.{DPhyp}
+use Rattle.store.specs.Counts.{counts}
+use Rattle.candidate.specs.Store.{Given, Lists, Store, store, planFor, leafWritten}
 use Rattle.candidate.specs.Held.{inputFor, holding}
 use Rattle.candidate.specs.LeavesHeld.{leavesWritten, leaves-held}
 use Rattle.candidate.specs.SearchHeld.{search-held}

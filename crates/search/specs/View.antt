@@ -11,8 +11,8 @@ use Rattle.definition.specs.Search.{Input, search, complete, ending, chosenPlan
 use Rattle.candidate.specs.Store as store
 use Rattle.candidate.specs.Store.{Given, Lists}
 use Rattle.candidate.specs.Held.{Roomy}
-use Rattle.candidate.specs.declared.Kept.{Kept}
-use Rattle.candidate.specs.declared.Kept.the-variants.{Plan, Absent}
+use Rattle.store.specs.declared.Kept.{Kept}
+use Rattle.store.specs.declared.Kept.the-variants.{Plan, Absent}
 use Rattle.search.specs.declared.Ending.{Ending}
 use Rattle.search.specs.declared.Ending.the-variants.{Planned, NoPlan, PlansFull, MemoFull, VisitsSpent}
 

@@ -7,15 +7,16 @@ ghost use Rattle.definition.specs.Cost.{leafEstimate};
 ghost use Rattle.definition.specs.Search.{search};
 ghost use Rattle.definition.specs.LeafView.{leavesFrom};
 ghost use Rattle.cost.specs.View.{estimateOf};
-ghost use Rattle.candidate.specs.Store.{given, lists, store, spot, keptOf};
+ghost use Rattle.store.specs.Memo.{spot, keptOf};
+ghost use Rattle.candidate.specs.Store.{given, lists, store};
 ghost use Rattle.candidate.specs.Held.{inputFor, holding};
 ghost use Rattle.candidate.specs.LeavesHeld.{leavesWritten};
-ghost use Rattle.search.specs.View.{endingOf, Ready, Ends};
-use candidate::DPhyp;
-use candidate::Kept;
+ghost use Rattle.search.specs.View.{endingNumber, chosenOf, endingOf, Ready, Ends};
 use cost::Estimate;
 use nodeset::NodeId;
 use nodeset::PlanId;
+use store::DPhyp;
+use store::Kept;
 
 // The chosen plan, or why there is none.
 pub enum Ending {
@@ -24,6 +25,36 @@ pub enum Ending {
     PlansFull,
     MemoFull,
     VisitsSpent,
+}
+
+impl Ending {
+    // The chosen plan's number where none is chosen.
+    pub const NONE: u32 = 4294967295;
+
+    // Document 01's number for it.
+    pub fn number(self) -> u32
+        ensures { λ r. ⌜ r ≡ endingNumber self ⌝ }
+    {
+        match self {
+            Ending::Planned(_) => 0,
+            Ending::NoPlan => 15,
+            Ending::PlansFull => DPhyp::PLANS_FULL,
+            Ending::MemoFull => DPhyp::MEMO_FULL,
+            Ending::VisitsSpent => DPhyp::VISITS_SPENT,
+        }
+    }
+
+    pub fn chosen(self) -> u32
+        ensures { λ r. ⌜ r ≡ chosenOf self ⌝ }
+    {
+        match self {
+            Ending::Planned(p) => p.0,
+            Ending::NoPlan => Ending::NONE,
+            Ending::PlansFull => Ending::NONE,
+            Ending::MemoFull => Ending::NONE,
+            Ending::VisitsSpent => Ending::NONE,
+        }
+    }
 }
 
 pub struct Searched {
@@ -94,7 +125,7 @@ fn ended(mset: &[u64], mplan: &[u32], leaves: u32, p: DPhyp) -> Ending
         return Ending::VisitsSpent;
     }
     let all = nodeset::all_nodes_mask(leaves);
-    let Kept::Plan(n) = candidate::kept_plan(mset, mplan, p.memo, all) else {
+    let Kept::Plan(n) = store::kept_plan(mset, mplan, p.memo, all) else {
         return Ending::NoPlan;
     };
     Ending::Planned(n)

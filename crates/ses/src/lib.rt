@@ -92,11 +92,11 @@ fn with_holders(
 }
 
 // The leaves of a side that the predicates of the range p name; the whole side where there are none.
-pub fn side_set<'a>(
+pub fn side_set(
     sheet: &[u8],
     s: Sections,
-    first: &'a [u32],
-    count: &'a [u32],
+    first: &[u32],
+    count: &[u32],
     n: u32,
     side: u64,
     p: Range,

@@ -52,14 +52,7 @@ fn r_asscom(a: u32, b: u32) -> bool
 
 // Whether the edges so far connect the leaves from of the earlier join j to our side to. Edges whose union is that of its record sets are
 // passed over.
-fn linked<'a>(
-    left: &'a [u64],
-    right: &'a [u64],
-    n: usize,
-    j: JoinRecord,
-    from: u64,
-    to: u64,
-) -> bool
+fn linked(left: &[u64], right: &[u64], n: usize, j: JoinRecord, from: u64, to: u64) -> bool
     requires { ⌜ (n ≤ length (now left)) × (n ≤ length (now right)) ⌝ }
     ensures { λ x. ⌜ Linked n (now (left .entry)) (now (right .entry)) j from to x ⌝ }
 {
@@ -67,9 +60,9 @@ fn linked<'a>(
 }
 
 // s with add, where the table says no and the link is there. The edges are asked only where the table says no.
-fn gained<'a>(
-    left: &'a [u64],
-    right: &'a [u64],
+fn gained(
+    left: &[u64],
+    right: &[u64],
     n: usize,
     allowed: bool,
     j: JoinRecord,
@@ -91,15 +84,7 @@ fn gained<'a>(
 }
 
 // The set s of our left side, widened by a join j inside that side. t: this join's type; r: our right side.
-fn widened_left<'a>(
-    left: &'a [u64],
-    right: &'a [u64],
-    n: usize,
-    t: u32,
-    r: u64,
-    j: JoinRecord,
-    s: u64,
-) -> u64
+fn widened_left(left: &[u64], right: &[u64], n: usize, t: u32, r: u64, j: JoinRecord, s: u64) -> u64
     requires { ⌜ (n ≤ length (now left)) × (n ≤ length (now right)) ⌝ }
     ensures { λ x. ⌜ WidenedLeft n (now (left .entry)) (now (right .entry)) t r j s x ⌝ }
 {
@@ -110,9 +95,9 @@ fn widened_left<'a>(
 }
 
 // The set s of our right side, widened by a join j inside that side. t: this join's type; l: our left side.
-fn widened_right<'a>(
-    left: &'a [u64],
-    right: &'a [u64],
+fn widened_right(
+    left: &[u64],
+    right: &[u64],
     n: usize,
     t: u32,
     l: u64,
@@ -129,9 +114,9 @@ fn widened_right<'a>(
 }
 
 // Both sets, widened by one earlier join.
-fn widened<'a>(
-    left: &'a [u64],
-    right: &'a [u64],
+fn widened(
+    left: &[u64],
+    right: &[u64],
     n: usize,
     t: u32,
     l: u64,
@@ -155,15 +140,15 @@ fn widened<'a>(
 }
 
 // Each of the m earlier joins in turn, from the sets start on. t: this join's type; l and r: our whole sides.
-pub fn widen<'a>(
-    left: &'a [u64],
-    right: &'a [u64],
+pub fn widen(
+    left: &[u64],
+    right: &[u64],
     n: usize,
-    kind: &'a [u32],
-    left_nodes: &'a [u64],
-    right_nodes: &'a [u64],
-    tes_left: &'a [u64],
-    tes_right: &'a [u64],
+    kind: &[u32],
+    left_nodes: &[u64],
+    right_nodes: &[u64],
+    tes_left: &[u64],
+    tes_right: &[u64],
     m: usize,
     t: u32,
     l: u64,

@@ -11,8 +11,7 @@ use Rattle.definition.specs.PlanRule.{pairsIn, CallPlanRule}
 use Rattle.definition.specs.OpenRule.{SameOpenBytes, SelectivitiesFit}
 use Rattle.definition.specs.TriedList.{triedList}
 use Rattle.listing.specs.Text.{pairsOf, sideSets}
-use Rattle.planner.specs.Answers.{Reported}
-use Rattle.tried_text.specs.declared.Counts.{Counts}
+use Rattle.planner.specs.declared.Report.{Report}
 
 -- "256 edges, 1,088 plans, 512 memo places"
 abbrev pub listRooms : Rooms
@@ -41,9 +40,6 @@ KeptBehind bs = accepted bs listRooms ≡ true → CallPlanRule bs listRooms def
 
 -- ---- the parts of the code
 
-abbrev pub countsIn : Reported → Counts
-countsIn r = record { answer = r .answer; plans = r .plans; visits = r .visits }
-
 -- the number of leaves of a sheet that passes the check, and 0 for one that does not
 unfoldable pub leavesPassed : List ℕ → ℕ
 leavesPassed bs = elim (sheetAnswer bs) [ zero ↦ leavesIn bs | suc n ↦ 0 ]
@@ -57,6 +53,6 @@ abbrev pub sideOf : List ℕ → ℕ → ℕ → List ℕ → List ℕ
 sideOf pset n plans pside = sets noSets 0 (sideSets pset pside n plans)
 
 -- the text from the plans' lists
-unfoldable pub textFrom : Counts → ℕ → List ℕ → List ℕ → List ℕ → List ℕ
-textFrom c n pset pleft pright =
-    triedList (c .answer) (c .visits) (pairsOf (sideOf pset n (c .plans) pleft) (sideOf pset n (c .plans) pright) (c .plans - n))
+unfoldable pub textFrom : Report → ℕ → List ℕ → List ℕ → List ℕ → List ℕ
+textFrom r n pset pleft pright =
+    triedList (r .answer) (r .visits) (pairsOf (sideOf pset n (r .plans) pleft) (sideOf pset n (r .plans) pright) (r .plans - n))

@@ -20,11 +20,11 @@ use Rattle.definition.specs.TriedList.{triedList}
 use Rattle.listing.specs.Text.{pairsOf}
 use Rattle.listing.specs.TextLaws.{head-bound, lines-bound, text-length}
 use Rattle.listing.specs.ReadBack.{pairs-read}
-use Rattle.planner.specs.Answers.{Reported, reported}
+use Rattle.planner.specs.declared.Report.{Report}
+use Rattle.planner.specs.Answers.{reported}
 use Rattle.planner.specs.Lent.{Lent, lent, roomsIn, holds}
-use Rattle.planner.specs.RoomLaws.{not-refused}
-use Rattle.tried_text.specs.declared.Counts.{Counts}
-use Rattle.tried_text.specs.Printed.{listRooms, listCall, printed, longestText, OpenText, countsIn, leavesPassed, noSets, sideOf, textFrom}
+use Rattle.checks.specs.RoomLaws.{not-refused}
+use Rattle.tried_text.specs.Printed.{listRooms, listCall, printed, longestText, OpenText, leavesPassed, noSets, sideOf, textFrom}
 
 -- ---- the open-list rule
 
@@ -93,20 +93,20 @@ module _ (bs : List ℕ) (bytes : Bytes bs) (sr lr rr : List ℕ) where
 -- ---- the text
 
 -- from both sides' lists and the number of candidates
-pub text-made : (c : Counts) (n : ℕ) (pset pleft pright : List ℕ) {left right : List ℕ} {m : ℕ} → left ≡ sideOf pset n (c .plans) pleft
-    → right ≡ sideOf pset n (c .plans) pright
-    → m ≡ c .plans - n
-    → triedList (c .answer) (c .visits) (pairsOf left right m) ≡ textFrom c n pset pleft pright
+pub text-made : (r : Report) (n : ℕ) (pset pleft pright : List ℕ) {left right : List ℕ} {m : ℕ} → left ≡ sideOf pset n (r .plans) pleft
+    → right ≡ sideOf pset n (r .plans) pright
+    → m ≡ r .plans - n
+    → triedList (r .answer) (r .visits) (pairsOf left right m) ≡ textFrom r n pset pleft pright
 unfolding textFrom
-text-made c n pset pleft pright p q e = rw (p, q, e) refl
+text-made r n pset pleft pright p q e = rw (p, q, e) refl
 
 -- its length, for numbers of 32 bits
-pub text-bound : (c : Counts) (n : ℕ) (pset pleft pright : List ℕ) → c .answer < 2 ^ 32 → c .plans - n < 2 ^ 32 → c .visits < 2 ^ 32
-    → length (textFrom c n pset pleft pright) ≤ 33 + 45 * (c .plans - n)
+pub text-bound : (r : Report) (n : ℕ) (pset pleft pright : List ℕ) → r .answer < 2 ^ 32 → r .plans - n < 2 ^ 32 → r .visits < 2 ^ 32
+    → length (textFrom r n pset pleft pright) ≤ 33 + 45 * (r .plans - n)
 unfolding textFrom
-text-bound c n pset pleft pright a few v =
-    let k = c .plans - n in
-    omega (arith, text-length (sideOf pset n (c .plans) pleft) (sideOf pset n (c .plans) pright) (c .answer) (c .visits) k, head-bound (c .answer) k (c .visits) a few v, lines-bound k (omega arith))
+text-bound r n pset pleft pright a few v =
+    let k = r .plans - n in
+    omega (arith, text-length (sideOf pset n (r .plans) pleft) (sideOf pset n (r .plans) pright) (r .answer) (r .visits) k, head-bound (r .answer) k (r .visits) a few v, lines-bound k (omega arith))
 
 -- a field's list is no shorter than its entries
 entries-fit : {A : Type 0} (f : A → ℕ) (xs : List A) (l : List ℕ) → length xs ≤ length (column f xs l)
@@ -122,7 +122,7 @@ unfolding storeLength
 fresh-rooms z = refl
 
 -- from what the call answers, r, and leaves in the lists, l
-module _ (bs : List ℕ) (bytes : Bytes bs) (z : Float) (l : Lent) {r : Reported} (answer : r ≡ reported (call bs (roomsIn (fresh z)) defaultLimit))
+module _ (bs : List ℕ) (bytes : Bytes bs) (z : Float) (l : Lent) {r : Report} (answer : r ≡ reported (call bs (roomsIn (fresh z)) defaultLimit))
     (lists : l ≡ holds (call bs (roomsIn (fresh z)) defaultLimit) (fresh z)) (size : length (l .plans .pset) ≡ 1088) where
   same-call : call bs (roomsIn (fresh z)) defaultLimit ≡ listCall bs
   same-call = ap (λ (rooms : Rooms). call bs rooms defaultLimit) (fresh-rooms z)
@@ -133,15 +133,15 @@ module _ (bs : List ℕ) (bytes : Bytes bs) (z : Float) (l : Lent) {r : Reported
       ap (λ (x : Lent). x .plans .pset) (lists ∙ ap (λ (o : Outcome). holds o (fresh z)) same-call) in
       omega (arith, size, ap (λ (x : List ℕ). length x) same, entries-fit (λ (p : Plan). p .set) (listCall bs .plans) noSets)
 
-  pub text-is : {c : Counts} {n : ℕ} → c ≡ countsIn r → n ≡ leavesPassed bs → textFrom c n (l .plans .pset) (l .plans .pleft) (l .plans .pright) ≡ printed bs
+  pub text-is : {n : ℕ} → n ≡ leavesPassed bs → textFrom r n (l .plans .pset) (l .plans .pleft) (l .plans .pright) ≡ printed bs
   unfolding textFrom printed
-  text-is e f =
-      rw (e, f, answer, lists, same-call)
+  text-is f =
+      rw (f, answer, lists, same-call)
       (ap (triedList (listCall bs .answer) (listCall bs .visits)) (pairs-printed bs bytes noSets noSets noSets few-plans))
 
-  pub text-fits : {c : Counts} {n : ℕ} → c ≡ countsIn r → n ≡ leavesPassed bs
-      → length (textFrom c n (l .plans .pset) (l .plans .pleft) (l .plans .pright)) ≤ 33 + 45 * (c .plans - n)
+  pub text-fits : {n : ℕ} → n ≡ leavesPassed bs
+      → length (textFrom r n (l .plans .pset) (l .plans .pleft) (l .plans .pright)) ≤ 33 + 45 * (r .plans - n)
       → length (printed bs) ≤ longestText
-  text-fits e f h =
-      let plans = ap (λ (x : Counts). x .plans) (e ∙ ap countsIn (answer ∙ ap reported same-call)) in
-      omega (arith, h, few-plans, plans, ap (λ (t : List ℕ). length t) (text-is e f))
+  text-fits f h =
+      let plans = ap (λ (x : Report). x .plans) (answer ∙ ap reported same-call) in
+      omega (arith, h, few-plans, plans, ap (λ (t : List ℕ). length t) (text-is f))

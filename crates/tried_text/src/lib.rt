@@ -2,64 +2,11 @@
 ghost use mathlib.Core.Path.{_≡_};
 ghost use Prim.Native.Nat.{_+_, _-_, _*_, _≤_};
 ghost use lib.ListN.{length};
-ghost use Rattle.search.specs.View.{endingNumber};
 ghost use Rattle.listing.specs.Text.{answerFor, writtenIn};
-ghost use Rattle.planner.specs.Answers.{refusalNumber, reportedOf};
-ghost use Rattle.tried_text.specs.Printed.{printed, longestText, OpenText, KeptBehind, countsIn, leavesPassed, textFrom};
+ghost use Rattle.tried_text.specs.Printed.{printed, longestText, OpenText, KeptBehind, leavesPassed, textFrom};
 use listing::Written;
-use planner::Answer;
-use planner::Refusal;
-use search::Ending;
+use planner::Report;
 use sheet::SheetAnswer;
-
-// What the text needs of an answer.
-struct Counts {
-    pub answer: u32,
-    pub plans: u32,
-    pub visits: u32,
-}
-
-fn ending_number(e: Ending) -> u32
-    ensures { λ r. ⌜ r ≡ endingNumber e ⌝ }
-{
-    match e {
-        Ending::Planned(_) => 0,
-        Ending::PlansFull => 12,
-        Ending::MemoFull => 13,
-        Ending::VisitsSpent => 14,
-        Ending::NoPlan => 15,
-    }
-}
-
-fn refusal_number(f: Refusal) -> u32
-    ensures { λ r. ⌜ r ≡ refusalNumber f ⌝ }
-{
-    match f {
-        Refusal::Sheet(s) => s.number(),
-        Refusal::TooManyEdges => 10,
-        Refusal::StoreTooSmall => 11,
-    }
-}
-
-fn counts_of(a: Answer) -> Counts
-    ensures { λ r. ⌜ r ≡ countsIn (reportedOf a) ⌝ }
-{
-    match a {
-        Answer::Refused(f) => Counts {
-            answer: refusal_number(f),
-            plans: 0,
-            visits: 0,
-        },
-        Answer::Ended(o) => {
-            let ending = o.ending;
-            Counts {
-                answer: ending_number(ending),
-                plans: o.plans,
-                visits: o.visits,
-            }
-        }
-    }
-}
 
 // The number of leaves of a sheet that passes the check.
 fn leaves(sheet: &[u8]) -> u32
@@ -80,17 +27,24 @@ fn trials(leaves: u32, plans: u32) -> u32
 }
 
 // The text from the plans' lists, of which the first n are leaves.
-fn listed(c: Counts, n: u32, pset: &[u64], pleft: &[u32], pright: &[u32], out: &mut [u8]) -> Written
-    ensures result { λ r. ⌜ r ≡ answerFor (textFrom c n (now (pset .entry)) (now (pleft .entry)) (now (pright .entry))) (now (out .entry)) ⌝ }
-    ensures text { λ r. ⌜ now (out .exit) ≡ writtenIn (textFrom c n (now (pset .entry)) (now (pleft .entry)) (now (pright .entry))) (now (out .entry)) ⌝ }
-    ensures size { λ r. ⌜ length (textFrom c n (now (pset .entry)) (now (pleft .entry)) (now (pright .entry))) ≤ 33 + 45 * (c .plans - n) ⌝ }
+fn listed(
+    report: Report,
+    n: u32,
+    pset: &[u64],
+    pleft: &[u32],
+    pright: &[u32],
+    out: &mut [u8],
+) -> Written
+    ensures result { λ r. ⌜ r ≡ answerFor (textFrom report n (now (pset .entry)) (now (pleft .entry)) (now (pright .entry))) (now (out .entry)) ⌝ }
+    ensures text { λ r. ⌜ now (out .exit) ≡ writtenIn (textFrom report n (now (pset .entry)) (now (pleft .entry)) (now (pright .entry))) (now (out .entry)) ⌝ }
+    ensures size { λ r. ⌜ length (textFrom report n (now (pset .entry)) (now (pleft .entry)) (now (pright .entry))) ≤ 33 + 45 * (report .plans - n) ⌝ }
 {
     let mut left = [0u64; 1088];
     let mut right = [0u64; 1088];
-    listing::side_sets(pset, pleft, n, c.plans, &mut left);
-    listing::side_sets(pset, pright, n, c.plans, &mut right);
-    let made = trials(n, c.plans);
-    listing::tried_list(c.answer, c.visits, &left, &right, made, out)
+    listing::side_sets(pset, pleft, n, report.plans, &mut left);
+    listing::side_sets(pset, pright, n, report.plans, &mut right);
+    let made = trials(n, report.plans);
+    listing::tried_list(report.answer, report.visits, &left, &right, made, out)
 }
 
 // The tried list of a sheet, from a call with 256 edges, 1,088 plans, 512 memo places and no stated limit.
@@ -115,7 +69,7 @@ pub fn tried_text(sheet: &[u8], out: &mut [u8]) -> Written
     let mut pcost = [0.0f64; 1088];
     let mut mset = [0u64; 512];
     let mut mplan = [0u32; 512];
-    let answer = planner::plan_default(
+    let report = planner::plan_default(
         sheet,
         &mut eleft,
         &mut eright,
@@ -131,8 +85,7 @@ pub fn tried_text(sheet: &[u8], out: &mut [u8]) -> Written
         &mut pcost,
         &mut mset,
         &mut mplan,
-    );
-    let c = counts_of(answer);
+    ).report();
     let n = leaves(sheet);
-    listed(c, n, &pset, &pleft, &pright, out)
+    listed(report, n, &pset, &pleft, &pright, out)
 }

@@ -9,8 +9,8 @@ called c = c .before .before .before .before .before .before .before .before .be
 call-requires : tie.Need-call-requires
 call-requires c κs = search needs
 
-reply-of-requires : tie.Need-reply-of-requires
-reply-of-requires c κs = search needs
+report-requires : tie.Need-report-requires
+report-requires c κs = search needs
 
 after-sheet-requires : tie.Need-after-sheet-requires
 after-sheet-requires c κs = search needs
@@ -68,7 +68,7 @@ compared-spec =
     tie.close
     (tie.spec
     call-requires
-    reply-of-requires
+    report-requires
     after-sheet-requires
     agrees-requires
     same-length

@@ -4,12 +4,13 @@ use Rattle.planner.proofs.plan.Tie as tie
 use mathlib.Core.Path.{_≡_}
 use Rattle.definition.specs.Sheet.{Bytes}
 use Rattle.definition.specs.Call.{call}
-use Rattle.planner.specs.Answers.{Reported, reported}
+use Rattle.planner.specs.declared.Report.{Report}
+use Rattle.planner.specs.Answers.{reported}
 use Rattle.planner.specs.Lent.{Lent, lent, roomsIn, holds}
 use Rattle.planner.specs.Rules.{OpenList, KeptPlans, FiniteCosts}
 use Rattle.planner.specs.RuleLaws.{open-list, kept-plans, finite-costs}
 use Rattle.planner.specs.CallLaws.{call-accepted, refused-answer, refused-lists, accepted-answer, accepted-lists}
-use Rattle.planner.specs.RoomLaws.{rooms-eq}
+use Rattle.checks.specs.RoomLaws.{rooms-eq}
 
 abbrev held : tie.Start → Lent
 held s = lent (s .args .eleft .now) (s .args .eright .now) (s .args .epredicate .now) (s .args .esource .now) (s .args .ekind .now) (s .args .pset .now) (s .args .pleft .now) (s .args .pright .now) (s .args .plead .now) (s .args .pkind .now) (s .args .prows .now) (s .args .pcost .now) (s .args .mset .now) (s .args .mplan .now)
@@ -17,7 +18,7 @@ held s = lent (s .args .eleft .now) (s .args .eright .now) (s .args .epredicate 
 bytes : (k : tie.After-shared-slice-known) → Bytes (k .before .args .sheet .now)
 bytes k i = k .shared-slice-known .given i .fits
 
-rules : (k : tie.After-shared-slice-known) (r : Reported) (l : Lent)
+rules : (k : tie.After-shared-slice-known) (r : Report) (l : Lent)
     → r ≡ reported (call (k .before .args .sheet .now) (roomsIn (held (k .before))) (k .before .args .limit))
     → l ≡ holds (call (k .before .args .sheet .now) (roomsIn (held (k .before))) (k .before .args .limit)) (held (k .before))
     → OpenList (k .before .args .sheet .now) (k .before .args .limit) (held (k .before)) r l

@@ -3,7 +3,7 @@ use borrow.Author.Needs.{needs}
 use mathlib.Core.Path.{sym, ap, _∙_}
 use Prim.Native.Nat.{ℕ}
 use lib.ListN.{take}
-use Rattle.candidate.specs.Store.{spot, keptOf}
+use Rattle.store.specs.Memo.{spot, keptOf}
 use Rattle.search.specs.View.{endingFor}
 use Rattle.search.specs.EndingLaws.{ends-plans, ends-memo, ends-visits, ends-so}
 use Rattle.search.proofs.ended.Statement.{statement}

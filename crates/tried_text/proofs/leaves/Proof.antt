@@ -4,7 +4,7 @@ use Rattle.tried_text.proofs.leaves.Tie as tie
 use mathlib.Core.Path.{sym, ap, _∙_}
 use Rattle.sheet.specs.Views.{answerNumber}
 use Rattle.sheet.specs.Placing.{positive, placed-accepted}
-use Rattle.planner.specs.AnswerLaws.{accepted-is}
+use Rattle.checks.specs.AnswerLaws.{accepted-is}
 use Rattle.tried_text.specs.PrintedLaws.{leaves-passed, leaves-refused}
 
 check-requires : tie.Need-check-requires

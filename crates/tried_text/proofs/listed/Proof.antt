@@ -40,12 +40,12 @@ returns c =
     let start = c .before .before .before .before .before .before .before .before .before .before .before .before .before .before .before .before .before in
     let a = start .args in
     let text = c .before .before .tried-list .ensures in
-    let few : a .c .plans - a .n < 2 ^ 32 = omega (arith, c .before .before .before .before .before .before .trials .ensures) in
+    let few : a .report .plans - a .n < 2 ^ 32 = omega (arith, c .before .before .before .before .before .before .trials .ensures) in
     let same =
-    text-made (a .c) (a .n) (a .pset .now) (a .pleft .now) (a .pright .now) (c .before .before .before .before .before .before .before .before .before .before .before .side-sets .ensures)
+    text-made (a .report) (a .n) (a .pset .now) (a .pleft .now) (a .pright .now) (c .before .before .before .before .before .before .before .before .before .before .before .side-sets .ensures)
     (c .before .before .before .before .before .before .before .before .side-sets2 .ensures) (c .before .before .before .before .before .before .trials .ensures) in (
       text .0 ∙ ap (λ (t : List ℕ). answerFor t (a .out .now)) same,
-      (text .1 ∙ ap (λ (t : List ℕ). writtenIn t (a .out .now)) same, text-bound (a .c) (a .n) (a .pset .now) (a .pleft .now) (a .pright .now) (omega arith) few (omega (arith, start .good .0))),
+      (text .1 ∙ ap (λ (t : List ℕ). writtenIn t (a .out .now)) same, text-bound (a .report) (a .n) (a .pset .now) (a .pleft .now) (a .pright .now) (omega arith) few (omega (arith, start .good .0))),
     )
 
 pub listed-spec : {M : Type 1} → statement M

@@ -58,8 +58,8 @@ slice-aggregate-plan-default-14 c = search needs
 plan-default-requires : tie.Need-plan-default-requires
 plan-default-requires c κs = search needs
 
-counts-of-requires : tie.Need-counts-of-requires
-counts-of-requires c κs = search needs
+report-requires : tie.Need-report-requires
+report-requires c κs = search needs
 
 leaves-requires : tie.Need-leaves-requires
 leaves-requires c κs = search needs
@@ -86,13 +86,13 @@ returns c =
     let plan = c .before .before .before .before .before .before .before .before .before .before .before .before .before .before .before .before .before .before .before .before .before .before .before .plan-default in
     let text = c .before .before .listed .ensures in
     let size = plan .kept .1 .1 .1 .1 .1 .1 .0 ∙ length-replicate {A = ℕ} 1088 0 in
-    let counts = c .before .before .before .before .before .before .before .before .counts-of .ensures in
+    let answer = c .before .before .before .before .before .before .before .before .report .ensures ∙ plan .ensures .0 in
     let leaves = c .before .before .before .before .before .before .before .leaves .ensures in
-    let same = text-is (a .sheet .now) bytes _ _ (plan .ensures .0) (plan .ensures .1 .0) size counts leaves in (
+    let same = text-is (a .sheet .now) bytes _ _ answer (plan .ensures .1 .0) size leaves in (
       text .0 ∙ ap (λ (t : List ℕ). answerFor t (a .out .now)) same,
       (
         text .1 .0 ∙ ap (λ (t : List ℕ). writtenIn t (a .out .now)) same,
-        (text-fits (a .sheet .now) bytes _ _ (plan .ensures .0) (plan .ensures .1 .0) size counts leaves (text .1 .1), (open-text (a .sheet .now) bytes, plan-rule (a .sheet .now) bytes listRooms defaultLimit)),
+        (text-fits (a .sheet .now) bytes _ _ answer (plan .ensures .1 .0) size leaves (text .1 .1), (open-text (a .sheet .now) bytes, plan-rule (a .sheet .now) bytes listRooms defaultLimit)),
       ),
     )
 
@@ -115,7 +115,7 @@ tried-text-spec =
     slice-aggregate-plan-default-13
     slice-aggregate-plan-default-14
     plan-default-requires
-    counts-of-requires
+    report-requires
     leaves-requires
     slice-aggregate-listed
     slice-aggregate-listed-2

@@ -5,7 +5,7 @@ use borrow.Fn.PlainCycle.{Measures, is, falls, and}
 use Rattle.dphyp.proofs.csg.enumerate_csg_rec.Reads as enumerate-csg-rec
 use Rattle.dphyp.proofs.csg.enumerate_csg_rec.Kinds as enumerate-csg-rec-kinds
 use Rattle.dphyp.proofs.csg.+enumerate_csg_rec.Lts-enumerate_csg_rec as enumerate-csg-rec-lts
-use Rattle.candidate.proofs.DPhyp.visit.Reads as visit-reads
+use Rattle.store.proofs.DPhyp.visit.Reads as visit-reads
 use Rattle.dphyp.proofs.cmp.subset_after.Reads as subset-after-reads
 use Rattle.dphyp.proofs.csg.visit_emits.Reads as visit-emits-reads
 use Rattle.graph.proofs.neighborhood.Reads as neighborhood-reads
@@ -21,7 +21,7 @@ use Rattle.definition.specs.Walk.{each}
 use Rattle.nodeset.specs.Subsets.{nonEmptySubsets}
 use lib.Bits.{bitOr}
 use mathlib.Core.List.{[]}
-use Rattle.candidate.specs.declared.DPhyp.{DPhyp}
+use Rattle.store.specs.declared.DPhyp.{DPhyp}
 
 abbrev μ-enumerate-csg-rec : Measures 15 enumerate-csg-rec-kinds.ps ℕ
 μ-enumerate-csg-rec κs a = a .1 .1 .1 .1 .1 .1 .1 .1 .1 .1 .1 .1 .1 .1 .1 .1 .1 .1 .1 .1 .0

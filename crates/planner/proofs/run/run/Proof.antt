@@ -2,15 +2,15 @@ use borrow.Author.Needs.{needs}
 use Rattle.planner.proofs.run.run.Statement.{statement}
 use Rattle.planner.proofs.run.run.Tie as tie
 use mathlib.Core.Path.{refl}
-use Rattle.planner.specs.Answers.{roomsOf}
+use Rattle.checks.specs.Answers.{roomsOf}
 use Rattle.planner.specs.Lent.{Lent, lent}
 use Rattle.planner.specs.RunLaws.{room, run-placed, run-sound, edges-fit, run-ready, run-answer, run-lists}
 
 abbrev held : tie.Start → Lent
 held s = lent (s .args .eleft .now) (s .args .eright .now) (s .args .epredicate .now) (s .args .esource .now) (s .args .ekind .now) (s .args .pset .now) (s .args .pleft .now) (s .args .pright .now) (s .args .plead .now) (s .args .pkind .now) (s .args .prows .now) (s .args .pcost .now) (s .args .mset .now) (s .args .mplan .now)
 
-write-edges-requires : tie.Need-write-edges-requires
-write-edges-requires c κs =
+build-hypergraph-requires : tie.Need-build-hypergraph-requires
+build-hypergraph-requires c κs =
     let f = c .before .before .before .before .before .before .before .before .before .before .before .before .before .before .before .before .before .before .before .before in
     let a = f .args in
     let bs = a .sheet .now in
@@ -21,23 +21,23 @@ search-plans-requires c κs =
     let f = c .before .before .before .before .before .before .before .before .before .before .before .before .before .before .before .before .before .before .before .before .before .before .before .before .before .before .before .before .before .before .before .before .before .before .before .before .before .before .before .before .before .before .before .before in
     let a = f .args in
     let bs = a .sheet .now in
-    let e = c .before .before .before .before .before .before .before .before .before .before .before .before .before .before .before .before .before .before .before .before .before .before .before .write-edges in
+    let e = c .before .before .before .before .before .before .before .before .before .before .before .before .before .before .before .before .before .before .before .before .before .before .before .build-hypergraph in
     ((run-placed bs (a .q) (roomsOf (a .rooms)) (held f) (f .pre), f .pre .leaves), run-ready bs (a .q) (roomsOf (a .rooms)) (held f) (f .pre) (e .result) _ (e .ensures .0) (e .ensures .1))
 
 same-length : tie.Need-same-length
-same-length c = c .before .before .before .before .before .before .before .before .before .before .before .before .before .before .before .before .before .before .before .before .before .before .before .before .before .before .before .before .before .before .before .before .before .before .before .before .before .before .before .before .before .before .before .write-edges .kept .1 .1 .0
+same-length c = c .before .before .before .before .before .before .before .before .before .before .before .before .before .before .before .before .before .before .before .before .before .before .before .before .before .before .before .before .before .before .before .before .before .before .before .before .before .before .before .before .before .before .before .build-hypergraph .kept .1 .1 .0
 
 same-length-2 : tie.Need-same-length-2
-same-length-2 c = c .before .before .before .before .before .before .before .before .before .before .before .before .before .before .before .before .before .before .before .before .before .before .before .before .before .before .before .before .before .before .before .before .before .before .before .before .before .before .before .before .before .before .before .write-edges .kept .1 .1 .1 .0
+same-length-2 c = c .before .before .before .before .before .before .before .before .before .before .before .before .before .before .before .before .before .before .before .before .before .before .before .before .before .before .before .before .before .before .before .before .before .before .before .before .before .before .before .before .before .before .before .build-hypergraph .kept .1 .1 .1 .0
 
 same-length-3 : tie.Need-same-length-3
-same-length-3 c = c .before .before .before .before .before .before .before .before .before .before .before .before .before .before .before .before .before .before .before .before .before .before .before .before .before .before .before .before .before .before .before .before .before .before .before .before .before .before .before .before .before .before .before .write-edges .kept .1 .1 .1 .1 .0
+same-length-3 c = c .before .before .before .before .before .before .before .before .before .before .before .before .before .before .before .before .before .before .before .before .before .before .before .before .before .before .before .before .before .before .before .before .before .before .before .before .before .before .before .before .before .before .before .build-hypergraph .kept .1 .1 .1 .1 .0
 
 same-length-4 : tie.Need-same-length-4
-same-length-4 c = c .before .before .before .before .before .before .before .before .before .before .before .before .before .before .before .before .before .before .before .before .before .before .before .before .before .before .before .before .before .before .before .before .before .before .before .before .before .before .before .before .before .before .before .write-edges .kept .1 .1 .1 .1 .1 .0
+same-length-4 c = c .before .before .before .before .before .before .before .before .before .before .before .before .before .before .before .before .before .before .before .before .before .before .before .before .before .before .before .before .before .before .before .before .before .before .before .before .before .before .before .before .before .before .before .build-hypergraph .kept .1 .1 .1 .1 .1 .0
 
 same-length-5 : tie.Need-same-length-5
-same-length-5 c = c .before .before .before .before .before .before .before .before .before .before .before .before .before .before .before .before .before .before .before .before .before .before .before .before .before .before .before .before .before .before .before .before .before .before .before .before .before .before .before .before .before .before .before .write-edges .kept .1 .1 .1 .1 .1 .1 .0
+same-length-5 c = c .before .before .before .before .before .before .before .before .before .before .before .before .before .before .before .before .before .before .before .before .before .before .before .before .before .before .before .before .before .before .before .before .before .before .before .before .before .before .before .before .before .before .before .build-hypergraph .kept .1 .1 .1 .1 .1 .1 .0
 
 same-length-6 : tie.Need-same-length-6
 same-length-6 c = search needs
@@ -71,7 +71,7 @@ returns c =
     let f = c .before .before .before .before .before .before .before .before .before .before .before .before .before .before .before .before .before .before .before .before .before .before .before .before .before .before .before .before .before .before .before .before .before .before .before .before .before .before .before .before .before .before .before .before .before .before .before .before .before .before .before .before .before .before .before .before .before .before .before .before .before .before .before .before in
     let a = f .args in
     let bs = a .sheet .now in
-    let e = c .before .before .before .before .before .before .before .before .before .before .before .before .before .before .before .before .before .before .before .before .before .before .before .before .before .before .before .before .before .before .before .before .before .before .before .before .before .before .before .before .before .before .before .write-edges in
+    let e = c .before .before .before .before .before .before .before .before .before .before .before .before .before .before .before .before .before .before .before .before .before .before .before .before .before .before .before .before .before .before .before .before .before .before .before .before .before .before .before .before .before .before .before .build-hypergraph in
     let r = c .before .before .before .before .before .before .before .before .before .before .before .before .before .before .before .before .before .before .before .search-plans in (
       run-answer bs (a .q) (roomsOf (a .rooms)) (held f) (f .pre) (e .result) _ (e .ensures .0) (e .ensures .1) (a .limit) _ (r .result) (r .ensures .0) (r .ensures .1) _ refl refl refl refl refl,
       run-lists bs (a .q) (roomsOf (a .rooms)) (held f) (f .pre) (e .result) _ (e .ensures .0) (e .ensures .1) (a .limit) _ (r .result) (r .ensures .0) (r .ensures .1),
@@ -81,7 +81,7 @@ pub run-spec : {M : Type 1} → statement M
 run-spec =
     tie.close
     (tie.spec
-    write-edges-requires
+    build-hypergraph-requires
     search-plans-requires
     same-length
     same-length-2

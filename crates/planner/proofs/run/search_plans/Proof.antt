@@ -12,7 +12,7 @@ use Rattle.definition.specs.Search.{Input}
 use Rattle.candidate.specs.Store.{lists}
 use Rattle.candidate.specs.Held.{holding}
 use Rattle.search.specs.View.{Ends}
-use Rattle.planner.specs.Answers.{roomsOf}
+use Rattle.checks.specs.Answers.{roomsOf}
 use Rattle.planner.specs.RunLaws.{search-asks, leaves-same, input-same}
 
 kinds-requires : tie.Need-kinds-requires

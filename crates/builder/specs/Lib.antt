@@ -1,0 +1,5 @@
+-- Definitions.
+pub mod Builds
+-- Laws.
+pub mod Laws
+pub mod JoinLaws

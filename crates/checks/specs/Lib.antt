@@ -1,0 +1,5 @@
+-- Definitions.
+pub mod Answers
+-- Laws.
+pub mod AnswerLaws
+pub mod RoomLaws

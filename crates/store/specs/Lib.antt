@@ -1,0 +1,4 @@
+pub mod Counts
+pub mod Memo
+pub mod Estimates
+pub mod Laws
