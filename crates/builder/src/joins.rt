@@ -19,12 +19,10 @@ use crate::RIGHT_NODES;
 use crate::TES_LEFT;
 use crate::TES_RIGHT;
 use conflict::HyperedgeJoinType;
+use nodeset::NONE;
 use sheet::Range;
 use sheet::Sections;
 use tes::Sides;
-
-// No predicate.
-const NONE: u32 = 4294967295;
 
 // A join as the walk finds it: the item's number and kind, its predicates, and its whole sides.
 pub struct JoinItem {

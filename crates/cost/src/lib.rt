@@ -7,12 +7,11 @@ ghost use Rattle.definition.specs.Cost.{whole, leafEstimate, product, candidate
 ghost use Rattle.definition.specs.EdgeView.{Held};
 ghost use Rattle.definition.specs.EdgeWalkLaws.{rowsAfter, withEdge};
 ghost use Rattle.cost.specs.View.{estimateOf, connectionOf, Connects, Connected};
+use nodeset::NONE;
 use nodeset::PredicateId;
 
 // 2^500
 const CEILING: f64 = 3.273390607896142e150;
-// No predicate, no edge.
-const NONE: u32 = 4294967295;
 
 pub struct Estimate {
     pub rows: f64,

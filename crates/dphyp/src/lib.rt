@@ -1,26 +1,14 @@
-// The search of join_ordering.rs over the lent stores. What each function ensures is one equation of whole stores: the lists and counts at
-// exit are the definition's walk of those at entry. A stop ends each loop: what comes next is then 0. Every function takes the first n edges
+// The search of join_ordering.rs over the lent stores, from the highest leaf down. What each function ensures is one equation of whole
+// stores: the lists and counts at exit are the definition's walk of those at entry. A stop ends the loop: what comes next is then 0.
+// Every function takes the first n edges
 // (left, right, predicate, source), the items' kinds, the predicates' selectivities, the plan and memo stores with their lengths (proom,
-// mroom), most of them the limit of visits, and the counts p; the stores are as in crate candidate.
-pub mod cmp;
-pub mod csg;
-
+// mroom), most of them the limit of visits, and the counts p; the stores are as in crate emit_csg_cmp.
 ghost use mathlib.Core.Path.{_≡_};
 ghost use Rattle.definition.specs.EdgeView.{Held};
 ghost use Rattle.candidate.specs.Store.{given, lists, store};
-ghost use Rattle.dphyp.specs.Walks.{storeSolve, solveLeaf, countAfter};
+ghost use Rattle.dphyp.specs.Walks.{storeSolve, solveLeaf};
 use nodeset::NodeId;
 use store::DPhyp;
-
-// j leaves are left to do; none where stopped.
-fn count_after(j: u32, stop: u32) -> u32
-    ensures { λ r. ⌜ r ≡ countAfter j stop ⌝ }
-{
-    if stop != 0 {
-        return 0;
-    }
-    j
-}
 
 // What starts from one leaf, as the set s1; x: all leaves up to it.
 fn solve_leaf(
@@ -51,7 +39,7 @@ fn solve_leaf(
     requires { ⌜ Held n (now left) (now right) (now predicate) ⌝ }
     ensures { λ r. ⌜ store (lists (now (pset .exit)) (now (pleft .exit)) (now (pright .exit)) (now (plead .exit)) (now (pkind .exit)) (now (prows .exit)) (now (pcost .exit)) (now (mset .exit)) (now (mplan .exit))) r ≡ solveLeaf (given n (now (left .entry)) (now (right .entry)) (now (predicate .entry)) (now (source .entry)) (now (kinds .entry)) (now (selectivity .entry)) proom mroom) limit leaves s1 x (store (lists (now (pset .entry)) (now (pleft .entry)) (now (pright .entry)) (now (plead .entry)) (now (pkind .entry)) (now (prows .entry)) (now (pcost .entry)) (now (mset .entry)) (now (mplan .entry))) p) ⌝ }
 {
-    let q = csg::emit_csg(
+    let q = emit_csg::emit_csg(
         left,
         right,
         predicate,
@@ -75,7 +63,7 @@ fn solve_leaf(
         s1,
         p,
     );
-    csg::enumerate_csg_rec(
+    enumerate_csg::enumerate_csg_rec(
         left,
         right,
         predicate,
@@ -161,7 +149,7 @@ pub fn solve(
             x,
             q,
         );
-        k = count_after(j, r.stop);
+        k = stepping::count_after(j, r.stop);
         q = r;
     }
     q

@@ -14,6 +14,9 @@ pub struct PlanId(pub u32);
 // A predicate's number: its place in the predicate table.
 pub struct PredicateId(pub u32);
 
+// No number, where a predicate, a lead edge or a chosen plan would have one.
+pub const NONE: u32 = 4294967295;
+
 // The set of one leaf; empty for a number of 64 or more.
 pub fn nodeset_singleton(id: NodeId) -> u64
     ensures { λ r. ⌜ r ≡ singleton (id .0) ⌝ }

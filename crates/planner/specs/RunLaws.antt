@@ -26,7 +26,7 @@ use Rattle.definition.specs.Call.{Rooms, storeLength, leavesOf, inputOf, search
 use Rattle.sheet.specs.Views.{Placed}
 use Rattle.sheet.specs.Placing.{placed-accepted}
 use Rattle.candidate.specs.Store.{Lists, Store, Given, store, given, edges}
-use Rattle.candidate.specs.Held.{inputFor, holding, Roomy}
+use Rattle.held.specs.Held.{inputFor, holding, Roomy}
 use Rattle.search.specs.View.{Ready, Ends, endingNumber, chosenOf}
 use Rattle.search.specs.declared.Searched.{Searched}
 use Rattle.checks.specs.declared.Question.{Question}

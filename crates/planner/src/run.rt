@@ -9,7 +9,7 @@ ghost use Rattle.definition.specs.Search.{search};
 ghost use Rattle.definition.specs.Call.{leavesIn, leavesOf, inputOf, searched};
 ghost use Rattle.sheet.specs.Views.{Placed};
 ghost use Rattle.candidate.specs.Store.{lists, store};
-ghost use Rattle.candidate.specs.Held.{inputFor, holding};
+ghost use Rattle.held.specs.Held.{inputFor, holding};
 ghost use Rattle.search.specs.View.{Ready, Ends};
 ghost use Rattle.checks.specs.Answers.{roomsOf};
 ghost use Rattle.planner.specs.Answers.{reported, endedAs};

@@ -7,7 +7,7 @@ use Rattle.definition.specs.Answers.{plansFull, memoFull, visitsSpent}
 use Rattle.definition.specs.Search.{ending, chosenPlan}
 use Rattle.definition.specs.StopLaws.{Stop, goes-on, plans-full, memo-full, visits-spent}
 use Rattle.store.specs.declared.Kept.{Kept}
-use Rattle.candidate.specs.MemoHeld.{toKept}
+use Rattle.held.specs.MemoHeld.{toKept}
 use Rattle.search.specs.declared.Ending.the-variants.{PlansFull, MemoFull, VisitsSpent}
 use Rattle.search.specs.View.{endingNumber, chosenOf, endingFor, endingOf}
 

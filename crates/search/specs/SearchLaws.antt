@@ -15,10 +15,10 @@ use Rattle.definition.specs.StopLaws.{search-stop}
 use Rattle.store.specs.declared.DPhyp.{DPhyp}
 use Rattle.store.specs.Counts.{counts}
 use Rattle.candidate.specs.Store.{Given, Lists, Store, store, planFor, leafWritten}
-use Rattle.candidate.specs.Held.{inputFor, holding}
-use Rattle.candidate.specs.LeavesHeld.{leavesWritten, leaves-held}
-use Rattle.candidate.specs.SearchHeld.{search-held}
-use Rattle.candidate.specs.MemoHeld.{plan-for}
+use Rattle.held.specs.Held.{inputFor, holding}
+use Rattle.held.specs.LeavesHeld.{leavesWritten, leaves-held}
+use Rattle.held.specs.SearchHeld.{search-held}
+use Rattle.held.specs.MemoHeld.{plan-for}
 use Rattle.dphyp.specs.Walks.{storeSolve}
 use Rattle.search.specs.declared.Ending.{Ending}
 use Rattle.definition.specs.LeafView.{leafAt, leavesFrom}

@@ -10,7 +10,7 @@ use Rattle.definition.specs.EdgeView.{Held}
 use Rattle.definition.specs.Search.{Input, search, complete, ending, chosenPlan}
 use Rattle.candidate.specs.Store as store
 use Rattle.candidate.specs.Store.{Given, Lists}
-use Rattle.candidate.specs.Held.{Roomy}
+use Rattle.held.specs.Held.{Roomy}
 use Rattle.store.specs.declared.Kept.{Kept}
 use Rattle.store.specs.declared.Kept.the-variants.{Plan, Absent}
 use Rattle.search.specs.declared.Ending.{Ending}

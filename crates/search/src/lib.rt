@@ -9,8 +9,8 @@ ghost use Rattle.definition.specs.LeafView.{leavesFrom};
 ghost use Rattle.cost.specs.View.{estimateOf};
 ghost use Rattle.store.specs.Memo.{spot, keptOf};
 ghost use Rattle.candidate.specs.Store.{given, lists, store};
-ghost use Rattle.candidate.specs.Held.{inputFor, holding};
-ghost use Rattle.candidate.specs.LeavesHeld.{leavesWritten};
+ghost use Rattle.held.specs.Held.{inputFor, holding};
+ghost use Rattle.held.specs.LeavesHeld.{leavesWritten};
 ghost use Rattle.search.specs.View.{endingNumber, chosenOf, endingOf, Ready, Ends};
 use cost::Estimate;
 use nodeset::NodeId;
@@ -29,7 +29,7 @@ pub enum Ending {
 
 impl Ending {
     // The chosen plan's number where none is chosen.
-    pub const NONE: u32 = 4294967295;
+    pub const NONE: u32 = nodeset::NONE;
 
     // Document 01's number for it.
     pub fn number(self) -> u32

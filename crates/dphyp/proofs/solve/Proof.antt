@@ -4,8 +4,9 @@ use Rattle.dphyp.proofs.solve.Tie as tie
 use mathlib.Core.Path.{_≡_, refl}
 use native.Mathlib.Omega.{arith}
 use Rattle.candidate.specs.Store.{given, lists, store}
-use Rattle.dphyp.specs.WalkLaws.{solve-next, solve-end, SameLengths, lengths-trans, lengths-refl}
-use Rattle.dphyp.specs.Stepping.{count-le}
+use Rattle.dphyp.specs.WalkLaws.{solve-next, solve-end}
+use Rattle.candidate.specs.Lengths.{SameLengths, lengths-trans, lengths-refl}
+use Rattle.stepping.specs.Stepping.{count-le}
 use Rattle.dphyp.specs.Walks.{storeFrom}
 use Prim.Native.Nat.{_-_}
 

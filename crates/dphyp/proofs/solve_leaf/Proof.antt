@@ -3,7 +3,7 @@ use Rattle.dphyp.proofs.solve_leaf.Statement.{statement}
 use Rattle.dphyp.proofs.solve_leaf.Tie as tie
 use mathlib.Core.Path.{ap, _∙_}
 use Rattle.candidate.specs.Store.{Given, Lists, given, lists}
-use Rattle.dphyp.specs.Walks.{storeCsgRec}
+use Rattle.enumerate_csg.specs.Walks.{storeCsgRec}
 
 abbrev g : tie.Start → Given
 g s =

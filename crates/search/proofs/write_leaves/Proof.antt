@@ -3,8 +3,8 @@ use mathlib.Core.Path.{refl}
 use Prim.Native.Nat.{_-_, _≤_}
 use native.Mathlib.Omega.{arith}
 use Rattle.candidate.specs.Store.{lists}
-use Rattle.candidate.specs.LeavesHeld.{leavesWritten}
-use Rattle.dphyp.specs.WalkLaws.{SameLengths, lengths-trans, lengths-refl}
+use Rattle.held.specs.LeavesHeld.{leavesWritten}
+use Rattle.candidate.specs.Lengths.{SameLengths, lengths-trans, lengths-refl}
 use Rattle.definition.specs.LeafView.{leavesFrom}
 use Rattle.search.specs.SearchLaws.{Remaining, remaining-next, remaining-end}
 use Rattle.search.proofs.write_leaves.Statement.{statement}

@@ -10,7 +10,7 @@ use Rattle.definition.specs.Sheet.{questionOf}
 use Rattle.definition.specs.Search as definition
 use Rattle.definition.specs.Search.{Input}
 use Rattle.candidate.specs.Store.{lists}
-use Rattle.candidate.specs.Held.{holding}
+use Rattle.held.specs.Held.{holding}
 use Rattle.search.specs.View.{Ends}
 use Rattle.checks.specs.Answers.{roomsOf}
 use Rattle.planner.specs.RunLaws.{search-asks, leaves-same, input-same}

@@ -1,0 +1,5 @@
+pub mod Held
+pub mod MemoHeld
+pub mod CandidateHeld
+pub mod SearchHeld
+pub mod LeavesHeld
