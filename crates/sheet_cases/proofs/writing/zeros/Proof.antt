@@ -1,5 +1,5 @@
-use Rattle.sheet_check.proofs.writing.zeros.Statement.{statement}
-use Rattle.sheet_check.proofs.writing.zeros.Tie as tie
+use Rattle.sheet_cases.proofs.writing.zeros.Statement.{statement}
+use Rattle.sheet_cases.proofs.writing.zeros.Tie as tie
 use mathlib.Core.Path.{_≡_}
 use Prim.Native.Nat.{_-_, _≤_}
 use lib.ListN.{length}

@@ -1,5 +1,5 @@
-use Rattle.sheet_check.proofs.writing.items.Statement.{statement}
-use Rattle.sheet_check.proofs.writing.items.Tie as tie
+use Rattle.sheet_cases.proofs.writing.items.Statement.{statement}
+use Rattle.sheet_cases.proofs.writing.items.Tie as tie
 use mathlib.Core.Path.{_≡_}
 use Prim.Native.Nat.{_-_, _≤_}
 use lib.ListN.{length}
