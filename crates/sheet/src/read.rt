@@ -38,7 +38,7 @@ fn range(sheet: &[u8], at: usize) -> Range
 }
 
 // Where the sections stand, by the header.
-pub fn sections(sheet: &[u8]) -> Sections
+pub fn sections_of(sheet: &[u8]) -> Sections
     requires { ⌜ 24 ≤ length (now sheet) ⌝ }
     ensures { λ r. ⌜ r ≡ sectionsOf (now (sheet .entry)) ⌝ }
 {

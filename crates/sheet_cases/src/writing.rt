@@ -1,6 +1,6 @@
 // Sheets written into a lent buffer. Each writer answers where the next word goes; what has no room is left out.
 use libc::STDOUT_FILENO;
-use sheet::SheetAnswer;
+use sheet_check::SheetAnswer;
 ghost use Prim.Native.Nat.{_≤_};
 
 fn byte(buf: &mut [u8], at: usize, b: u8) -> usize {
@@ -96,7 +96,7 @@ fn show(name: &[u8], buf: &[u8], length: usize) {
     if buf.len() < length {
         return;
     }
-    let answer = number(sheet::check(&buf[0..length]));
+    let answer = number(sheet_check::check(&buf[0..length]));
     io::write_all(STDOUT_FILENO, name);
     io::write_all(STDOUT_FILENO, b": ");
     io::print_decimal(STDOUT_FILENO, answer as u64);

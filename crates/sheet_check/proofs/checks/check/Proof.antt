@@ -1,19 +1,20 @@
 use borrow.Author.Needs.{needs}
-use Rattle.sheet.proofs.checks.check.Statement.{statement}
-use Rattle.sheet.proofs.checks.check.Tie as tie
+use Rattle.sheet_check.proofs.checks.check.Statement.{statement}
+use Rattle.sheet_check.proofs.checks.check.Tie as tie
 use mathlib.Core.Path.{_≡_, sym, _∙_}
 use native.Mathlib.Omega.{arith}
 use Rattle.definition.specs.Sheet.{questionOf}
 use Rattle.definition.specs.SheetLaws.{headerAnswer, itemsAnswer, predicatesAnswer, walkAnswer, answer-header, answer-question, answer-items, answer-predicates, answer-walk, framed}
 use Rattle.sheet.specs.Views.{Placed}
-use Rattle.sheet.specs.Placing.{number-fails, number-passes, placed, never-accepted, same-sections}
+use Rattle.sheet.specs.Placing.{placed}
+use Rattle.sheet_check.specs.AnswerLaws.{number-fails, number-passes, never-accepted, same-sections}
 
 -- what has passed: the header, with where the sections stand; the items; the predicates
 header : (c : tie.After-enum-told) → headerAnswer (c .before .before .before .before .args .sheet .now) ≡ 0
 header c = number-passes (c .enum-told .given .1) (c .before .before .check-header .ensures)
 
-standing : (c : tie.After-sections) → Placed (c .before .before .before .before .before .args .sheet .now) (c .sections .result)
-standing c = placed _ (c .sections .result) (framed _ (header (c .before))) (c .sections .ensures)
+standing : (c : tie.After-sections-of) → Placed (c .before .before .before .before .before .args .sheet .now) (c .sections-of .result)
+standing c = placed _ (c .sections-of .result) (framed _ (header (c .before))) (c .sections-of .ensures)
 
 items : (c : tie.After-enum-told2) → itemsAnswer (questionOf (c .before .before .before .before .before .before .before .before .args .sheet .now)) ≡ 0
 items c = number-passes (c .enum-told2 .given .1) (c .before .before .check-items .ensures)
@@ -35,8 +36,8 @@ returns c =
 enum-told : tie.Need-enum-told
 enum-told c = search needs
 
-sections-requires : tie.Need-sections-requires
-sections-requires c κs = omega (arith, framed (c .before .before .before .before .args .sheet .now) (header c) .whole)
+sections-of-requires : tie.Need-sections-of-requires
+sections-of-requires c κs = omega (arith, framed (c .before .before .before .before .args .sheet .now) (header c) .whole)
 
 check-items-requires : tie.Need-check-items-requires
 check-items-requires c κs = standing c
@@ -96,7 +97,7 @@ returns-5 c =
           (answer-question bs (header (c .before .before .before .before .before .before .before .before .before .before))
           ∙ answer-walk (questionOf bs) (items (c .before .before .before .before .before .before)) (predicates (c .before .before .before))
           ∙ walk),
-      λ s e. same-sections e (c .before .before .before .before .before .before .before .before .before .sections .ensures),
+      λ s e. same-sections e (c .before .before .before .before .before .before .before .before .before .sections-of .ensures),
     )
 
 pub check-spec : {M : Type 1} → statement M
@@ -107,7 +108,7 @@ check-spec =
     enum-known-f
     returns
     enum-told
-    sections-requires
+    sections-of-requires
     check-items-requires
     enum-known-f-2
     returns-2

@@ -1,5 +1,5 @@
-use Rattle.sheet.proofs.checks.check_predicates.Statement.{statement}
-use Rattle.sheet.proofs.checks.check_predicates.Tie as tie
+use Rattle.sheet_check.proofs.checks.check_predicates.Statement.{statement}
+use Rattle.sheet_check.proofs.checks.check_predicates.Tie as tie
 use mathlib.Core.Path.{_≡_, refl, sym, _∙_}
 use native.Mathlib.Omega.{arith}
 use Prim.Native.Nat.{_-_, _≤_, _<_}
@@ -8,7 +8,7 @@ use lib.ListN.{length, drop}
 use Rattle.definition.specs.Lists.{concatMap}
 use Rattle.definition.specs.Sheet.{questionOf, firstFailing, predicateChecks}
 use Rattle.definition.specs.SheetLaws.{predicatesAnswer, length-predicates, predicate-fails, predicate-passes, predicates-end}
-use Rattle.sheet.specs.Placing.{number-fails, number-passes}
+use Rattle.sheet_check.specs.AnswerLaws.{number-fails, number-passes}
 
 -- the checks from predicate p on give the answer of all
 abbrev Inv-loop : tie.InvT-loop

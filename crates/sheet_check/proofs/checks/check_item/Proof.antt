@@ -1,14 +1,14 @@
 use borrow.Author.Needs.{needs}
-use Rattle.sheet.proofs.checks.check_item.Statement.{statement}
-use Rattle.sheet.proofs.checks.check_item.Tie as tie
+use Rattle.sheet_check.proofs.checks.check_item.Statement.{statement}
+use Rattle.sheet_check.proofs.checks.check_item.Tie as tie
 use mathlib.Core.Path.{_≡_, sym, ap, ap₂, _∙_}
 use Prim.Native.Nat.{_≤_}
 use native.Mathlib.Omega.{arith}
 use Rattle.definition.specs.Question.{Item, Question, item, fits}
 use Rattle.definition.specs.Sheet.{questionOf, reservedIsSet, tableLength}
 use Rattle.definition.specs.SheetLaws.{item-unknown, item-reserved, item-past, item-fits}
-use Rattle.sheet.specs.Views.{tableCount}
-use Rattle.sheet.specs.Placing.{item-of, table-here}
+use Rattle.sheet_check.specs.Views.{tableCount}
+use Rattle.sheet_check.specs.AnswerLaws.{item-of, table-here}
 
 -- the question and the item, and what the tests have shown of it
 abbrev question : tie.Start → Question

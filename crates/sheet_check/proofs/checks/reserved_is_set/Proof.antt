@@ -1,5 +1,5 @@
-use Rattle.sheet.proofs.checks.reserved_is_set.Statement.{statement}
-use Rattle.sheet.proofs.checks.reserved_is_set.Tie as tie
+use Rattle.sheet_check.proofs.checks.reserved_is_set.Statement.{statement}
+use Rattle.sheet_check.proofs.checks.reserved_is_set.Tie as tie
 use borrow.Author.Tests.{ne-eqb}
 
 returns : tie.Need-returns

@@ -1,18 +1,18 @@
 // The sheet check, in document 01's order: header; item by item; predicate by predicate; the walk.
 use crate::Fault;
-use crate::Range;
-use crate::Sections;
 use crate::SheetAnswer;
 use crate::Verdict;
-use crate::read;
 use nodeset::PredicateId;
+use sheet::Range;
+use sheet::Sections;
 ghost use mathlib.Core.Path.{_≡_};
 ghost use Prim.Native.Nat.{_+_, _<_, _≤_};
 ghost use lib.ListN.{length};
 ghost use Rattle.definition.specs.Lists.{concatMap};
 ghost use Rattle.definition.specs.Question.{item, predicate, fits};
 ghost use Rattle.definition.specs.Sheet.{questionOf, firstFailing, headerChecks, itemChecks, predicateChecks, walkChecks, reservedIsSet, sheetAnswer};
-ghost use Rattle.sheet.specs.Views.{verdictNumber, answerNumber, rangeOf, sectionsOf, tableCount, Placed};
+ghost use Rattle.sheet.specs.Views.{rangeOf, sectionsOf, Placed};
+ghost use Rattle.sheet_check.specs.Views.{verdictNumber, answerNumber, tableCount};
 
 // Length, counts, offsets.
 fn check_header(sheet: &[u8]) -> Verdict
@@ -21,7 +21,7 @@ fn check_header(sheet: &[u8]) -> Verdict
     if sheet.len() < 24 {
         return Verdict::Fail(Fault::Truncated);
     }
-    let s = read::sections(sheet);
+    let s = sheet::sections_of(sheet);
     if 127 < s.items.count {
         return Verdict::Fail(Fault::OverLimit);
     }
@@ -76,12 +76,12 @@ fn check_item(sheet: &[u8], s: Sections, i: usize) -> Verdict
     requires { ⌜ Placed (now sheet) s × (i < s .items .count) ⌝ }
     ensures { λ r. ⌜ verdictNumber r ≡ firstFailing (itemChecks (questionOf (now (sheet .entry))) (item (questionOf (now (sheet .entry))) i)) ⌝ }
 {
-    let kind = read::item_kind(sheet, s, i);
+    let kind = sheet::item_kind(sheet, s, i);
     if 9 < kind {
         return Verdict::Fail(Fault::UnknownKind);
     }
-    let rows = read::item_rows(sheet, s, i);
-    let r = read::item_range(sheet, s, i);
+    let rows = sheet::item_rows(sheet, s, i);
+    let r = sheet::item_range(sheet, s, i);
     if reserved_is_set(kind, rows, r) {
         return Verdict::Fail(Fault::ReservedNotZero);
     }
@@ -123,10 +123,10 @@ fn check_predicate(sheet: &[u8], s: Sections, p: PredicateId) -> Verdict
     requires { ⌜ Placed (now sheet) s × (p .0 < s .predicates .count) ⌝ }
     ensures { λ r. ⌜ verdictNumber r ≡ firstFailing (predicateChecks (questionOf (now (sheet .entry))) (predicate (questionOf (now (sheet .entry))) (p .0))) ⌝ }
 {
-    if 65536 < read::predicate_selectivity(sheet, s, p) {
+    if 65536 < sheet::predicate_selectivity(sheet, s, p) {
         return Verdict::Fail(Fault::SelectivityAboveOne);
     }
-    let r = read::predicate_range(sheet, s, p);
+    let r = sheet::predicate_range(sheet, s, p);
     if fits(r, s.columns.count) {
         Verdict::Pass
     } else {
@@ -154,8 +154,8 @@ fn check_walk(sheet: &[u8], s: Sections) -> Verdict
     requires { ⌜ Placed (now sheet) s ⌝ }
     ensures { λ r. ⌜ verdictNumber r ≡ firstFailing (walkChecks (questionOf (now (sheet .entry)))) ⌝ }
 {
-    let crowded = 64 < read::leaf_count(sheet, s);
-    let broken = !read::is_walk(sheet, s);
+    let crowded = 64 < sheet::leaf_count(sheet, s);
+    let broken = !sheet::is_walk(sheet, s);
     if crowded {
         return Verdict::Fail(Fault::TooManyLeaves);
     }
@@ -173,7 +173,7 @@ pub fn check(sheet: &[u8]) -> SheetAnswer
     if let Verdict::Fail(f) = check_header(sheet) {
         return SheetAnswer::Refused(f);
     }
-    let s = read::sections(sheet);
+    let s = sheet::sections_of(sheet);
     if let Verdict::Fail(f) = check_items(sheet, s) {
         return SheetAnswer::Refused(f);
     }

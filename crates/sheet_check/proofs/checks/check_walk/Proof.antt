@@ -1,6 +1,6 @@
 use borrow.Author.Needs.{needs}
-use Rattle.sheet.proofs.checks.check_walk.Statement.{statement}
-use Rattle.sheet.proofs.checks.check_walk.Tie as tie
+use Rattle.sheet_check.proofs.checks.check_walk.Statement.{statement}
+use Rattle.sheet_check.proofs.checks.check_walk.Tie as tie
 use mathlib.Core.Path.{sym, _∙_}
 use Prim.Native.Nat.{_≤_}
 use native.Mathlib.Omega.{arith}

@@ -1,6 +1,6 @@
 use borrow.Author.Needs.{needs}
-use Rattle.sheet.proofs.read.sections.Statement.{statement}
-use Rattle.sheet.proofs.read.sections.Tie as tie
+use Rattle.sheet.proofs.read.sections_of.Statement.{statement}
+use Rattle.sheet.proofs.read.sections_of.Tie as tie
 
 word-requires : tie.Need-word-requires
 word-requires c κs = search needs
@@ -41,8 +41,8 @@ cast-t8-3 c = search needs
 returns : tie.Need-returns
 returns c = rw (c .before .before .before .before .before .word .ensures, c .before .before .before .before .word2 .ensures, c .before .before .before .word3 .ensures, c .before .before .word4 .ensures, c .before .word5 .ensures, c .word6 .ensures)
 
-pub sections-spec : {M : Type 1} → statement M
-sections-spec =
+pub sections-of-spec : {M : Type 1} → statement M
+sections-of-spec =
     tie.close
     (tie.spec
     word-requires

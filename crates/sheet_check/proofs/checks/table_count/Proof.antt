@@ -1,7 +1,7 @@
-use Rattle.sheet.proofs.checks.table_count.Statement.{statement}
-use Rattle.sheet.proofs.checks.table_count.Tie as tie
+use Rattle.sheet_check.proofs.checks.table_count.Statement.{statement}
+use Rattle.sheet_check.proofs.checks.table_count.Tie as tie
 use borrow.Author.Tests.{ne-eqb}
-use Rattle.sheet.specs.Views.{tableCount}
+use Rattle.sheet_check.specs.Views.{tableCount}
 
 returns : tie.Need-returns
 returns c = rw (c .if1 .taken)

@@ -1,5 +1,5 @@
-use Rattle.sheet.proofs.checks.check_items.Statement.{statement}
-use Rattle.sheet.proofs.checks.check_items.Tie as tie
+use Rattle.sheet_check.proofs.checks.check_items.Statement.{statement}
+use Rattle.sheet_check.proofs.checks.check_items.Tie as tie
 use mathlib.Core.Path.{_≡_, refl, sym, _∙_}
 use native.Mathlib.Omega.{arith}
 use Prim.Native.Nat.{_-_, _≤_, _<_}
@@ -8,7 +8,7 @@ use lib.ListN.{length, drop}
 use Rattle.definition.specs.Lists.{concatMap}
 use Rattle.definition.specs.Sheet.{questionOf, firstFailing, itemChecks}
 use Rattle.definition.specs.SheetLaws.{itemsAnswer, length-items, item-fails, item-passes, items-end}
-use Rattle.sheet.specs.Placing.{number-fails, number-passes}
+use Rattle.sheet_check.specs.AnswerLaws.{number-fails, number-passes}
 
 -- the checks from item i on give the answer of all
 abbrev Inv-loop : tie.InvT-loop
