@@ -2,10 +2,10 @@
 use mathlib.Core.Path.{_≡_, sym, ap, _∙_}
 use Prim.Native.Nat.{ℕ}
 use native.Mathlib.Omega.{arith}
-use Rattle.sheet.specs.Views.{answerNumber}
 use Rattle.sheet.specs.declared.Sections.{Sections}
-use Rattle.sheet.specs.declared.SheetAnswer.{SheetAnswer}
-use Rattle.sheet.specs.declared.SheetAnswer.the-variants as sheet
+use Rattle.sheet_check.specs.Views.{answerNumber}
+use Rattle.sheet_check.specs.declared.SheetAnswer.{SheetAnswer}
+use Rattle.sheet_check.specs.declared.SheetAnswer.the-variants as sheet
 use Rattle.checks.specs.declared.Question.{Question}
 use Rattle.checks.specs.declared.Refusal.{Refusal}
 use Rattle.checks.specs.declared.Checked.the-variants.{Refused, Accepted}

@@ -2,7 +2,7 @@
 use Prim.Native.Nat.{ℕ}
 use Rattle.definition.specs.Answers.{tooManyEdges, storeTooSmall}
 use Rattle.definition.specs.Call as call
-use Rattle.sheet.specs.Views.{numberOf}
+use Rattle.sheet_check.specs.Views.{numberOf}
 use Rattle.checks.specs.declared.Refusal.{Refusal}
 use Rattle.checks.specs.declared.Refusal.the-variants.{Sheet, TooManyEdges, StoreTooSmall}
 use Rattle.checks.specs.declared.Checked.{Checked}

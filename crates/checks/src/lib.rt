@@ -1,8 +1,8 @@
 // The lengths of the stores, and the checks before anything is searched: the sheet's own, then 10 and 11.
 use builder::HypergraphBuilder;
-use sheet::Fault;
 use sheet::Sections;
-use sheet::SheetAnswer;
+use sheet_check::Fault;
+use sheet_check::SheetAnswer;
 ghost use mathlib.Core.Path.{_≡_};
 ghost use mathlib.Core.List.{[], _∷_, _++_};
 ghost use mathlib.Core.Bool.{_||_};
@@ -106,7 +106,7 @@ pub fn check(sheet: &[u8], rooms: Rooms) -> Checked
     ensures number { λ r. ⌜ checkedNumber r ≡ refusedWith (now (sheet .entry)) (roomsOf rooms) ⌝ }
     ensures accepted { λ r. ⌜ ((q : Question) → r ≡ checked.Checked.Accepted q → (q .sections ≡ sectionsOf (now (sheet .entry))) × (q .leaves ≡ leavesIn (now (sheet .entry)))) ⌝ }
 {
-    let answer = sheet::check(sheet);
+    let answer = sheet_check::check(sheet);
     match answer {
         SheetAnswer::Refused(f) => Checked::Refused(Refusal::Sheet(f)),
         SheetAnswer::Accepted(s) => check_stores(sheet, s, rooms),

@@ -5,7 +5,7 @@ use Prim.Native.Nat.{ℕ, zero, suc, _<_}
 use native.Mathlib.Omega.{arith}
 use Rattle.definition.specs.Sheet.{questionOf}
 use Rattle.definition.specs.Call.{Rooms, Outcome, refusedWith, refusal, inputOf, searched, call}
-use Rattle.sheet.specs.Placing.{positive}
+use Rattle.sheet_check.specs.AnswerLaws.{positive}
 use Rattle.checks.specs.declared.Refusal.{Refusal}
 use Rattle.checks.specs.declared.Refusal.the-variants.{Sheet, TooManyEdges, StoreTooSmall}
 use Rattle.checks.specs.declared.Question.{Question}

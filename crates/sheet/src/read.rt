@@ -17,7 +17,7 @@ fn wide(x: u8) -> u32
 }
 
 // The word whose four bytes start at `at`, the lowest first.
-pub fn word(sheet: &[u8], at: usize) -> u32
+fn word(sheet: &[u8], at: usize) -> u32
     requires { ⌜ at + 4 ≤ length (now sheet) ⌝ }
     ensures { λ r. ⌜ r ≡ word (now (sheet .entry)) at ⌝ }
 {
@@ -38,7 +38,7 @@ fn range(sheet: &[u8], at: usize) -> Range
 }
 
 // Where the sections stand, by the header.
-pub fn sections(sheet: &[u8]) -> Sections
+pub fn sections_of(sheet: &[u8]) -> Sections
     requires { ⌜ 24 ≤ length (now sheet) ⌝ }
     ensures { λ r. ⌜ r ≡ sectionsOf (now (sheet .entry)) ⌝ }
 {

@@ -1,7 +1,7 @@
 // Replays recorded sheet checks from standard input (crate records): behind its sheet a record has the expected answer. The crate's stdin is
 // the oracle's checks.bin.
 use libc::STDOUT_FILENO;
-use sheet::SheetAnswer;
+use sheet_check::SheetAnswer;
 ghost use mathlib.Core.Path.{_≡_};
 ghost use Prim.Native.Nat.{_+_, _<_, _≤_};
 
@@ -24,7 +24,7 @@ fn counted(t: Tally, record: &[u8]) -> Tally
 {
     let records = t.records + 1;
     let expected = records::word(records::after_sheet(record), 0);
-    let found = number(sheet::check(records::sheet_of(record)));
+    let found = number(sheet_check::check(records::sheet_of(record)));
     if expected == found {
         return Tally {
             records,

@@ -6,13 +6,13 @@ ghost use Rattle.listing.specs.Text.{answerFor, writtenIn};
 ghost use Rattle.tried_text.specs.Printed.{printed, longestText, OpenText, KeptBehind, leavesPassed, textFrom};
 use listing::Written;
 use planner::Report;
-use sheet::SheetAnswer;
+use sheet_check::SheetAnswer;
 
 // The number of leaves of a sheet that passes the check.
 fn leaves(sheet: &[u8]) -> u32
     ensures { λ r. ⌜ r ≡ leavesPassed (now (sheet .entry)) ⌝ }
 {
-    let answer = sheet::check(sheet);
+    let answer = sheet_check::check(sheet);
     match answer {
         SheetAnswer::Refused(_) => 0,
         SheetAnswer::Accepted(s) => sheet::leaf_count(sheet, s),

@@ -2,8 +2,9 @@ use borrow.Author.Needs.{needs}
 use Rattle.checks.proofs.check.Statement.{statement}
 use Rattle.checks.proofs.check.Tie as tie
 use mathlib.Core.Path.{sym, ap, _∙_}
-use Rattle.sheet.specs.Views.{answerNumber}
-use Rattle.sheet.specs.Placing.{positive, placed-accepted}
+use Rattle.sheet.specs.Placing.{placed-accepted}
+use Rattle.sheet_check.specs.Views.{answerNumber}
+use Rattle.sheet_check.specs.AnswerLaws.{positive}
 use Rattle.checks.specs.Answers.{roomsOf}
 use Rattle.checks.specs.RoomLaws.{sheet-refused, sheet-passes}
 use Rattle.checks.specs.AnswerLaws.{never-accepted, accepted-is}

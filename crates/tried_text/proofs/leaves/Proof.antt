@@ -2,8 +2,9 @@ use borrow.Author.Needs.{needs}
 use Rattle.tried_text.proofs.leaves.Statement.{statement}
 use Rattle.tried_text.proofs.leaves.Tie as tie
 use mathlib.Core.Path.{sym, ap, _∙_}
-use Rattle.sheet.specs.Views.{answerNumber}
-use Rattle.sheet.specs.Placing.{positive, placed-accepted}
+use Rattle.sheet.specs.Placing.{placed-accepted}
+use Rattle.sheet_check.specs.Views.{answerNumber}
+use Rattle.sheet_check.specs.AnswerLaws.{positive}
 use Rattle.checks.specs.AnswerLaws.{accepted-is}
 use Rattle.tried_text.specs.PrintedLaws.{leaves-passed, leaves-refused}
 
