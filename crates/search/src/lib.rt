@@ -93,7 +93,7 @@ fn write_leaves(
     let mut k: u32 = 0;
     while k < leaves {
         let e = estimate_of(rows, columns, k);
-        candidate::write_leaf(
+        emit_csg_cmp::write_leaf(
             pset,
             pleft,
             pright,
