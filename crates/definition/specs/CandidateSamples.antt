@@ -9,7 +9,7 @@ use Rattle.definition.specs.Question.{leaf, inner}
 use Rattle.definition.specs.Hypergraph.{connectingFrom, anyPredicate, selectivitiesOf}
 use Rattle.definition.specs.Cost.{filtered, candidateFrom}
 use Rattle.definition.specs.Walk.{each}
-use Rattle.definition.specs.Search.{Entry, Leaf, Input, Pair, find, replace, visit, candidateKind, candidate, noted, joined, attempt, leafPlans, leafEntries, start}
+use Rattle.definition.specs.Search.{Entry, Leaf, Input, Pair, find, replace, visit, candidateKind, candidate, memoAfter, joined, attempt, leafPlans, leafEntries, start}
 
 abbrev scan : ℕ → Leaf
 scan rows = record { rows = rows; columns = 1 }
@@ -29,7 +29,7 @@ chain rows ss planRoom memoRoom limit =
 
 -- after these pairs: answer, number of plans, memo
 unfoldable pub after : Input → List Pair → ℕ × ℕ × List Entry
-unfolding singleton connectingFrom anyPredicate selectivitiesOf filtered candidateFrom find replace candidateKind candidate noted joined attempt leafPlans leafEntries start mul add div lt ofInt
+unfolding singleton connectingFrom anyPredicate selectivitiesOf filtered candidateFrom find replace candidateKind candidate memoAfter joined attempt leafPlans leafEntries start mul add div lt ofInt
 after i ts = let st = each (λ t u. attempt i (t .left) (t .right) u) ts (start i) in (st .stop, length (st .plans), st .memo)
 
 abbrev entry : ℕ → ℕ → Entry

@@ -15,7 +15,7 @@ use Rattle.definition.specs.Connected.{oneClass, met, merge, merges, rou
 use Rattle.definition.specs.Edges.{buildHypergraph, buildFrom, buildItem, joinItem, crossItem, leafItem, innerEdges, otherEdges, sidesFor, widen, sideSet, holders, holder, edgeCount}
 use Rattle.definition.specs.Cost.{whole, filtered, candidateFrom}
 use Rattle.definition.specs.Walk.{enumerateCmpRec, emitCsg, enumerateCsgRec, solveFrom}
-use Rattle.definition.specs.Search.{Plan, Entry, Pair, find, replace, visit, candidateKind, candidate, noted, joined, attempt, leafPlans, leafEntries, start, search}
+use Rattle.definition.specs.Search.{Plan, Entry, Pair, find, replace, visit, candidateKind, candidate, memoAfter, joined, attempt, leafPlans, leafEntries, start, search}
 use Rattle.definition.specs.Call.{Rooms, Outcome, defaultLimit, refusedWith, leavesOf, searched, call}
 
 pub record Row : Type 0 where
@@ -29,7 +29,7 @@ bytes w = (w % 256) ∷ (w / 256 % 256) ∷ (w / 65536 % 256) ∷ (w / 16777216)
 
 -- a call on the sheet of these words, with all that it takes to compute it
 unfoldable pub computed : List ℕ → Rooms → ℕ → Outcome
-unfolding trailingZeros bit singleton lowest allBelow upToLowest doubled subsetsOf nonEmptySubsets singletonsBelow singletons tabulate concatMap member leafCount endsWithOne word firstFailing questionOf questionAnswer sheetAnswer typeOf assoc l-asscom r-asscom hasEdge connectingFrom beyond neighborhood anyPredicate selectivitiesOf oneClass met merge merges round rounds connected buildHypergraph buildFrom buildItem joinItem crossItem leafItem innerEdges otherEdges sidesFor widen sideSet holders holder edgeCount filtered candidateFrom enumerateCmpRec emitCsg enumerateCsgRec solveFrom find replace visit candidateKind candidate noted joined attempt leafPlans leafEntries start search leavesOf searched refusedWith call mul add div lt ofInt
+unfolding trailingZeros bit singleton lowest allBelow upToLowest doubled subsetsOf nonEmptySubsets singletonsBelow singletons tabulate concatMap member leafCount endsWithOne word firstFailing questionOf questionAnswer sheetAnswer typeOf assoc l-asscom r-asscom hasEdge connectingFrom beyond neighborhood anyPredicate selectivitiesOf oneClass met merge merges round rounds connected buildHypergraph buildFrom buildItem joinItem crossItem leafItem innerEdges otherEdges sidesFor widen sideSet holders holder edgeCount filtered candidateFrom enumerateCmpRec emitCsg enumerateCsgRec solveFrom find replace visit candidateKind candidate memoAfter joined attempt leafPlans leafEntries start search leavesOf searched refusedWith call mul add div lt ofInt
 computed ws rooms limit = call (concatMap bytes ws) rooms limit
 
 abbrev outcome : Row → Outcome

@@ -28,7 +28,7 @@ use Rattle.definition.specs.Kept.{union, madeFor, Several, KeptAfter, si
 use Rattle.definition.specs.PlanRule.{WithinLimits, entryOf, firstSets, MemoHolds, WellKept, Finite, PlanRule, pairsIn}
 use Rattle.definition.specs.KeptLaws.{single-not-several, connecting-edge, kept-below, kept-unique, kept-set, joins-once, edge-at-each-join, all-finite, pair-several, read-back}
 use Rattle.definition.specs.KeptMore.{length-more, pair-new, plan-new, kept-other, for-other, kept-first, kept-cheaper, kept-dearer, candidates-more}
-use Rattle.definition.specs.MemoLaws.{setsOf, some-inj, none≢some, winner, noted-same, noted-other, find-member, sets-noted, leafPlans-length, leaf-found, leaf-missed}
+use Rattle.definition.specs.MemoLaws.{setsOf, some-inj, none≢some, winner, memoAfter-same, memoAfter-other, find-member, sets-memoAfter, leafPlans-length, leaf-found, leaf-missed}
 use Rattle.definition.specs.MemoOrder.{first-more, Distinct, entries-once, find-at, find-position, leaf-sets, leaf-first, order-distinct}
 
 -- plan p is kept for the set s after all candidates of a state
@@ -109,10 +109,10 @@ module _ (i : Input) (limits : WithinLimits i) where
             (not-cheaper→at-least (new .estimate) (planAt st o .estimate) (new-finite .cost) (old-finite .cost) f)
 
     found : find (more .memo) (bitOr a b) ≡ some (winner st (length (st .plans)) new (find (st .memo) (bitOr a b)))
-    found = noted-same st (bitOr a b) (length (st .plans)) new (find (st .memo) (bitOr a b)) refl
+    found = memoAfter-same st (bitOr a b) (length (st .plans)) new (find (st .memo) (bitOr a b)) refl
 
     others : (s : ℕ) → (bitOr a b ≡ s → ⊥) → find (more .memo) s ≡ find (st .memo) s
-    others = noted-other st (bitOr a b) (length (st .plans)) new (find (st .memo) (bitOr a b))
+    others = memoAfter-other st (bitOr a b) (length (st .plans)) new (find (st .memo) (bitOr a b))
 
     holds-more : (s p : ℕ) → find (more .memo) s ≡ some p → KeptNow s p
     holds-more s p h = go (eqb (bitOr a b) s) refl
@@ -136,7 +136,7 @@ module _ (i : Input) (limits : WithinLimits i) where
 
     order-more : setsOf (more .memo) ≡ firstSets (tabulate (length (i .leaves)) singleton) (map union (more .tried))
     order-more =
-        sets-noted st (bitOr a b) (length (st .plans)) new (find (st .memo) (bitOr a b))
+        sets-memoAfter st (bitOr a b) (length (st .plans)) new (find (st .memo) (bitOr a b))
         ∙ ap₂ (λ (x : Bool) (m : List ℕ). elim x [ true ↦ m | false ↦ m ++ (bitOr a b ∷ []) ])
         (find-member (st .memo) (bitOr a b) ∙ ap (member (bitOr a b)) (v .order)) (v .order)
         ∙ sym (first-more (tabulate (length (i .leaves)) singleton) (map union (st .tried)) (bitOr a b))

@@ -12,7 +12,7 @@ use borrow.Author.Tests.{eqb-true, eqb-false, eq-eqb, ne-eqb}
 use Rattle.nodeset.specs.Sets.{singleton}
 use Rattle.definition.specs.Lists.{member}
 use Rattle.definition.specs.Cost.{cheaper}
-use Rattle.definition.specs.Search.{Leaf, Plan, Entry, State, find, isSome, replace, planAt, noted, leafPlans, leafEntries}
+use Rattle.definition.specs.Search.{Leaf, Plan, Entry, State, find, isSome, replace, planAt, memoAfter, leafPlans, leafEntries}
 
 abbrev pub setsOf : List Entry → List ℕ
 setsOf = map (λ (e : Entry). e .set)
@@ -79,19 +79,19 @@ abbrev pub winner : State → ℕ → Plan → Option ℕ → ℕ
 winner st n p none = n
 winner st n p (some o) = elim (cheaper (p .estimate) (planAt st o .estimate)) [ true ↦ n | false ↦ o ]
 
-pub noted-same : (st : State) (s n : ℕ) (p : Plan) (o : Option ℕ) → find (st .memo) s ≡ o → find (noted st s n p o) s ≡ some (winner st n p o)
-unfolding noted
-noted-same st s n p none h = append-same (st .memo) s n h
-noted-same st s n p (some o) h = go (cheaper (p .estimate) (planAt st o .estimate))
+pub memoAfter-same : (st : State) (s n : ℕ) (p : Plan) (o : Option ℕ) → find (st .memo) s ≡ o → find (memoAfter st s n p o) s ≡ some (winner st n p o)
+unfolding memoAfter
+memoAfter-same st s n p none h = append-same (st .memo) s n h
+memoAfter-same st s n p (some o) h = go (cheaper (p .estimate) (planAt st o .estimate))
   where
     go : (b : Bool) → find (elim b [ true ↦ replace (st .memo) s n | false ↦ st .memo ]) s ≡ some (elim b [ true ↦ n | false ↦ o ])
     go true = replace-same (st .memo) s n o h
     go false = h
 
-pub noted-other : (st : State) (s n : ℕ) (p : Plan) (o : Option ℕ) (t : ℕ) → (s ≡ t → ⊥) → find (noted st s n p o) t ≡ find (st .memo) t
-unfolding noted
-noted-other st s n p none t h = append-other (st .memo) s n t h
-noted-other st s n p (some o) t h = go (cheaper (p .estimate) (planAt st o .estimate))
+pub memoAfter-other : (st : State) (s n : ℕ) (p : Plan) (o : Option ℕ) (t : ℕ) → (s ≡ t → ⊥) → find (memoAfter st s n p o) t ≡ find (st .memo) t
+unfolding memoAfter
+memoAfter-other st s n p none t h = append-other (st .memo) s n t h
+memoAfter-other st s n p (some o) t h = go (cheaper (p .estimate) (planAt st o .estimate))
   where
     go : (b : Bool) → find (elim b [ true ↦ replace (st .memo) s n | false ↦ st .memo ]) t ≡ find (st .memo) t
     go true = replace-other (st .memo) s n t h
@@ -119,10 +119,10 @@ sets-replace (e ∷ m) s n = go (eqb (e .set) s) (eqb-true (e .set) s) (sets-rep
     go true q h = ap (λ (x : ℕ). x ∷ setsOf m) (sym (q refl))
     go false q h = ap (λ (l : List ℕ). e .set ∷ l) h
 
-pub sets-noted : (st : State) (s n : ℕ) (p : Plan) (o : Option ℕ) → setsOf (noted st s n p o) ≡ elim (isSome o) [ true ↦ setsOf (st .memo) | false ↦ setsOf (st .memo) ++ (s ∷ []) ]
-unfolding noted
-sets-noted st s n p none = map-append (λ (e : Entry). e .set) (st .memo) _
-sets-noted st s n p (some o) = go (cheaper (p .estimate) (planAt st o .estimate))
+pub sets-memoAfter : (st : State) (s n : ℕ) (p : Plan) (o : Option ℕ) → setsOf (memoAfter st s n p o) ≡ elim (isSome o) [ true ↦ setsOf (st .memo) | false ↦ setsOf (st .memo) ++ (s ∷ []) ]
+unfolding memoAfter
+sets-memoAfter st s n p none = map-append (λ (e : Entry). e .set) (st .memo) _
+sets-memoAfter st s n p (some o) = go (cheaper (p .estimate) (planAt st o .estimate))
   where
     go : (b : Bool) → setsOf (elim b [ true ↦ replace (st .memo) s n | false ↦ st .memo ]) ≡ setsOf (st .memo)
     go true = sets-replace (st .memo) s n

@@ -17,7 +17,7 @@ use Rattle.definition.specs.Hypergraph.{Edge, connecting}
 use Rattle.definition.specs.Walk.{solve}
 use Rattle.definition.specs.WalkLaws.{Sided, elim-rel, solve-rel}
 pub use Rattle.definition.specs.MemoLaws.{setsOf}
-use Rattle.definition.specs.MemoLaws.{find-member, sets-noted, leafPlans-length}
+use Rattle.definition.specs.MemoLaws.{find-member, sets-memoAfter, leafPlans-length}
 use Rattle.definition.specs.Search.{Leaf, Plan, Entry, Pair, Input, State, find, isSome, kept, stopped, visit, added, stored, joined, candidate, attempt, leafEntries, start, search, complete, ending}
 
 -- two inputs that differ at most in row counts, column counts of leaves, kinds and selectivities
@@ -53,9 +53,9 @@ added-same s t a b p q r =
       tried = ap (λ (l : List Pair). l ++ (record { left = a; right = b } ∷ [])) (r .tried);
       plans = length-append (s .plans) (p ∷ []) ∙ ap (λ (n : ℕ). n + 1) (r .plans) ∙ sym (length-append (t .plans) (q ∷ []));
       memo =
-          sets-noted s (bitOr a b) _ p (find (s .memo) (bitOr a b))
+          sets-memoAfter s (bitOr a b) _ p (find (s .memo) (bitOr a b))
           ∙ ap₂ (λ (x : Bool) (l : List ℕ). elim x [ true ↦ l | false ↦ l ++ (bitOr a b ∷ []) ]) k (r .memo)
-          ∙ sym (sets-noted t (bitOr a b) _ q (find (t .memo) (bitOr a b)));
+          ∙ sym (sets-memoAfter t (bitOr a b) _ q (find (t .memo) (bitOr a b)));
       visits = r .visits;
       stop = refl;
     }

@@ -15,7 +15,7 @@ use Rattle.definition.specs.Hypergraph.{Edge, hasEdge, connectingFrom, b
 use Rattle.definition.specs.Cost.{filtered, candidateFrom}
 use Rattle.definition.specs.Walk.{enumerateCmpRec, emitCsg, enumerateCsgRec, solveFrom}
 use Rattle.definition.specs.WalkLaws.{Sided}
-use Rattle.definition.specs.Search.{Leaf, Plan, Entry, Pair, Input, State, find, replace, visit, candidateKind, candidate, noted, joined, attempt, leafPlans, leafEntries, start, search}
+use Rattle.definition.specs.Search.{Leaf, Plan, Entry, Pair, Input, State, find, replace, visit, candidateKind, candidate, memoAfter, joined, attempt, leafPlans, leafEntries, start, search}
 use Rattle.definition.specs.Kept.{planOf, Several, KeptAfter, Qualifies, Meets, occurs, JoinsOnce}
 use Rattle.definition.specs.PlanRule.{WithinLimits, WellKept, PlanRule}
 use Rattle.definition.specs.KeptLaws.{kept-unique, meets-unique}
@@ -64,7 +64,7 @@ chain-within x y z columns s t room h =
 
 -- the search, with all that it takes to compute it
 unfoldable pub run : Input → State
-unfolding trailingZeros bit singleton lowest allBelow upToLowest doubled subsetsOf nonEmptySubsets singletonsBelow singletons hasEdge connectingFrom beyond neighborhood anyPredicate selectivitiesOf filtered candidateFrom enumerateCmpRec emitCsg enumerateCsgRec solveFrom find replace visit candidateKind candidate noted joined attempt leafPlans leafEntries start search mul add div lt ofInt
+unfolding trailingZeros bit singleton lowest allBelow upToLowest doubled subsetsOf nonEmptySubsets singletonsBelow singletons hasEdge connectingFrom beyond neighborhood anyPredicate selectivitiesOf filtered candidateFrom enumerateCmpRec emitCsg enumerateCsgRec solveFrom find replace visit candidateKind candidate memoAfter joined attempt leafPlans leafEntries start search mul add div lt ofInt
 run i = search i
 
 abbrev pair : ℕ → ℕ → Pair

@@ -122,9 +122,9 @@ candidate i st a b l r c cs =
     }
 
 -- "A trial replaces the memo's plan only if strictly cheaper." n: the candidate's number; the last argument: the plan that the memo has for s
-unfoldable pub noted : State → ℕ → ℕ → Plan → Option ℕ → List Entry
-noted st s n p none = st .memo ++ (record { set = s; plan = n } ∷ [])
-noted st s n p (some o) =
+unfoldable pub memoAfter : State → ℕ → ℕ → Plan → Option ℕ → List Entry
+memoAfter st s n p none = st .memo ++ (record { set = s; plan = n } ∷ [])
+memoAfter st s n p (some o) =
     elim (cheaper (p .estimate) (planAt st o .estimate)) [ true ↦ replace (st .memo) s n | false ↦ st .memo ]
 
 -- every candidate made is written as a plan
@@ -133,7 +133,7 @@ added st a b p =
     record {
       tried = st .tried ++ (record { left = a; right = b } ∷ []);
       plans = st .plans ++ (p ∷ []);
-      memo = noted st (bitOr a b) (length (st .plans)) p (find (st .memo) (bitOr a b));
+      memo = memoAfter st (bitOr a b) (length (st .plans)) p (find (st .memo) (bitOr a b));
       visits = st .visits;
       stop = 0;
     }

@@ -19,7 +19,7 @@ use Rattle.definition.specs.Cost.{Estimate, product, candidateFrom, cheaper}
 use Rattle.definition.specs.Connection.{Connection, connectionOver, connection}
 use Rattle.definition.specs.EdgeViewLaws.{length-edges, edges-get}
 use Rattle.definition.specs.EdgeWalkLaws.{lead-is-edge}
-use Rattle.definition.specs.Search.{Plan, Entry, Leaf, Input, State, absent, planAt, find, replace, kept, stopped, candidateKind, candidate, noted, added, stored, joined, attempt}
+use Rattle.definition.specs.Search.{Plan, Entry, Leaf, Input, State, absent, planAt, find, replace, kept, stopped, candidateKind, candidate, memoAfter, added, stored, joined, attempt}
 use Rattle.store.specs.declared.DPhyp.{DPhyp}
 use Rattle.store.specs.declared.Found.{Found}
 use Rattle.store.specs.declared.Found.the-variants.{At, Nothing}
@@ -203,10 +203,10 @@ module _ (g : Given) (ls : List Leaf) (limit : ℕ) (h : Lists) (room : Roomy g 
         is-added : (kept st (bitOr a b) || ltb (length (st .memo)) (g .memoRoom)) ≡ true → attempt I a b st ≡ added st a b p
         is-added q = is-stored ∙ rw (lt-ltb (length (st .plans)) (g .planRoom) roomy, stored, q)
 
-        noted-goal : (i best : ℕ) (m : List Entry) → seat ≡ Here (place i best (length m)) → attempt I a b st ≡ added st a b p
+        memoAfter-goal : (i best : ℕ) (m : List Entry) → seat ≡ Here (place i best (length m)) → attempt I a b st ≡ added st a b p
             → added st a b p .memo ≡ m
             → set (H .mset) i (bitOr a b) ≡ column (λ (x : Entry). x .set) m (h .mset) → set (H .mplan) i best ≡ column (λ (x : Entry). x .plan) m (h .mplan) → Goal
-        noted-goal i best m es' ed en e1 e2 =
+        memoAfter-goal i best m es' ed en e1 e2 =
             made-goal i best (length m) es' ed (ap length (sym en)) (e1 ∙ ap (λ (z : List Entry). column (λ (x : Entry). x .set) z (h .mset)) (sym en))
             (e2 ∙ ap (λ (z : List Entry). column (λ (x : Entry). x .plan) z (h .mplan)) (sym en))
 
@@ -214,14 +214,14 @@ module _ (g : Given) (ls : List Leaf) (limit : ℕ) (h : Lists) (room : Roomy g 
         fresh = record { set = bitOr a b; plan = n }
 
         new-goal : spot 0 (sets (st .memo)) (bitOr a b) ≡ Nothing → length (st .memo) < g .memoRoom → Goal
-        unfolding noted
+        unfolding memoAfter
         new-goal q lt =
             let none-kept : find (st .memo) (bitOr a b) ≡ none = unseated 0 (st .memo) (bitOr a b) q in
-            noted-goal (length (st .memo)) n (st .memo ++ (fresh ∷ []))
+            memoAfter-goal (length (st .memo)) n (st .memo ++ (fresh ∷ []))
             (sym (place-new (H .prows) (H .pcost) (H .mplan) (length (st .memo)) (g .memoRoom) n (p .estimate) (spot-is ∙ q) lt)
             ∙ ap (λ (z : ℕ). Here (place (length (st .memo)) n z)) (sym (length-append (st .memo) (fresh ∷ []))))
             (is-added (rw (none-kept, lt-ltb (length (st .memo)) (g .memoRoom) lt)))
-            (ap (noted st (bitOr a b) n p) none-kept)
+            (ap (memoAfter st (bitOr a b) n p) none-kept)
             (put (λ (x : Entry). x .set) (st .memo) fresh (h .mset) 0 (omega (arith, room .mset)))
             (put (λ (x : Entry). x .plan) (st .memo) fresh (h .mplan) 0 (omega (arith, room .mplan)))
 
@@ -253,28 +253,28 @@ module _ (g : Given) (ls : List Leaf) (limit : ℕ) (h : Lists) (room : Roomy g 
               set-append-left (sets (st .memo)) (drop (length (st .memo)) (h .mset)) i (bitOr a b) in-sets
               ∙ ap (λ (z : List ℕ). z ++ drop (length (st .memo)) (h .mset)) (ap (set (sets (st .memo)) i) (sym (w .has)) ∙ set-getD (sets (st .memo)) i 0)
 
-          noted-is : noted st (bitOr a b) n p (find (st .memo) (bitOr a b))
+          memoAfter-is : memoAfter st (bitOr a b) n p (find (st .memo) (bitOr a b))
               ≡ elim (cheaper (p .estimate) (planAt st old .estimate)) [ true ↦ replace (st .memo) (bitOr a b) n | false ↦ st .memo ]
-          unfolding noted
-          noted-is = ap (noted st (bitOr a b) n p) (w .found)
+          unfolding memoAfter
+          memoAfter-is = ap (memoAfter st (bitOr a b) n p) (w .found)
 
           cheaper-goal : cheaper (p .estimate) (planAt st old .estimate) ≡ true → Goal
           cheaper-goal t =
-              noted-goal i n (replace (st .memo) (bitOr a b) n)
+              memoAfter-goal i n (replace (st .memo) (bitOr a b) n)
               (sym (place-cheaper (H .prows) (H .pcost) (H .mplan) (length (st .memo)) (g .memoRoom) n (p .estimate) (spot-is ∙ q) old-is (ap (cheaper (p .estimate)) (sym before-is) ∙ t))
               ∙ ap (λ (z : ℕ). Here (place i n z)) (sym (replace-length (st .memo) (bitOr a b) n)))
               (is-added (rw (w .found)))
-              (noted-is ∙ rw t)
+              (memoAfter-is ∙ rw t)
               (same-set ∙ ap₂ (λ (x : List ℕ) (y : ℕ). x ++ drop y (h .mset)) (sym (w .same-sets n)) (sym (replace-length (st .memo) (bitOr a b) n)))
               (set-append-left (plans (st .memo)) (drop (length (st .memo)) (h .mplan)) i n in-plans
               ∙ ap₂ (λ (x : List ℕ) (y : ℕ). x ++ drop y (h .mplan)) (sym (w .new-plans n)) (sym (replace-length (st .memo) (bitOr a b) n)))
 
           old-goal : cheaper (p .estimate) (planAt st old .estimate) ≡ false → Goal
           old-goal t =
-              noted-goal i old (st .memo)
+              memoAfter-goal i old (st .memo)
               (sym (place-old (H .prows) (H .pcost) (H .mplan) (length (st .memo)) (g .memoRoom) n (p .estimate) (spot-is ∙ q) old-is (ap (cheaper (p .estimate)) (sym before-is) ∙ t)))
               (is-added (rw (w .found)))
-              (noted-is ∙ rw t)
+              (memoAfter-is ∙ rw t)
               same-set
               (set-append-left (plans (st .memo)) (drop (length (st .memo)) (h .mplan)) i old in-plans
               ∙ ap (λ (z : List ℕ). z ++ drop (length (st .memo)) (h .mplan)) (set-getD (plans (st .memo)) i 0))

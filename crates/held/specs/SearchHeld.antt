@@ -14,10 +14,10 @@ use Rattle.nodeset.specs.SubsetLaws.{All}
 use Rattle.definition.specs.Answers.{visitsSpent}
 use Rattle.definition.specs.Hypergraph.{none32, Sided, connecting}
 use Rattle.definition.specs.Cost.{cheaper}
-use Rattle.definition.specs.Search.{Plan, Leaf, Input, State, planAt, find, isSome, kept, stopped, visit, candidate, noted, added, joined, attempt, start, search}
+use Rattle.definition.specs.Search.{Plan, Leaf, Input, State, planAt, find, isSome, kept, stopped, visit, candidate, memoAfter, added, joined, attempt, start, search}
 use Rattle.definition.specs.Walk.{solve}
 use Rattle.definition.specs.WalkLaws.{solve-rel}
-use Rattle.definition.specs.MemoLaws.{some-inj, winner, noted-same, noted-other, leafPlans-length, leaf-found}
+use Rattle.definition.specs.MemoLaws.{some-inj, winner, memoAfter-same, memoAfter-other, leafPlans-length, leaf-found}
 use Rattle.store.specs.declared.Found.{Found}
 use Rattle.store.specs.declared.Found.the-variants.{At, Nothing}
 use Rattle.store.specs.Counts.{counts}
@@ -62,10 +62,10 @@ ok-added st a b p ok s k e = go (eqb u s) refl
     go true d =
         let w = winner-named st p u (find (st .memo) u) refl ok in
         let i : winner st n p (find (st .memo) u) ≡ k =
-        some-inj (sym (noted-same st u n p (find (st .memo) u) refl) ∙ ap (find (noted st u n p (find (st .memo) u))) (eqb-true _ _ d) ∙ e) in
+        some-inj (sym (memoAfter-same st u n p (find (st .memo) u) refl) ∙ ap (find (memoAfter st u n p (find (st .memo) u))) (eqb-true _ _ d) ∙ e) in
         omega (arith, l)
     go false d =
-        let w = ok s k (sym (noted-other st u n p (find (st .memo) u) s (eqb-false _ _ d)) ∙ e) in
+        let w = ok s k (sym (memoAfter-other st u n p (find (st .memo) u) s (eqb-false _ _ d)) ∙ e) in
         omega (arith, l)
 
 ok-joined : (i : Input) (st : State) (a b : ℕ) (x y : Option ℕ) (cs : List ℕ) → Ok st → Ok (joined i st a b x y cs)
