@@ -1,4 +1,5 @@
--- Laws of `solve` over the lent lists: a stopped store is changed by nothing, and each way through a function of the crate. Assumes nothing.
+-- Laws of `solve` over the lent lists: a stopped store is changed by nothing, and each way through a function of the crate.
+-- Assumes nothing.
 use mathlib.Core.Path.{_≡_, refl, ap, _∙_}
 use Prim.Native.Nat.{ℕ, zero, suc, _-_}
 use Rattle.nodeset.specs.Sets.{singleton, allBelow}

@@ -1,5 +1,5 @@
--- `enumerate_cmp_rec` over the lent lists: the definition's function at the state Store, for what the search is given. Below it what the code does between
--- two of its calls.
+-- `enumerate_cmp_rec` over the lent lists: the definition's function at the state Store, for what the search is given. Below it what the code
+-- does between two of its calls.
 use mathlib.Core.Path.{_≡_}
 use mathlib.Core.List.{List}
 use mathlib.Core.Bool.{Bool, _&&_}
@@ -18,7 +18,6 @@ abbrev pub storeCmpRec : Given → ℕ → ℕ → ℕ → ℕ → ℕ → Store
 storeCmpRec g limit d s1 s2 x st = enumerateCmpRec (edges g) Store kept (visit limit) (attempt g) d s1 s2 x st
 
 -- one subset t of the neighbours in its first pass, that pass, and one in its second pass, where y is excluded
-
 unfoldable pub visitTry : Given → ℕ → ℕ → ℕ → ℕ → Store → Store
 visitTry g limit s1 s2 t st = tryConnected (edges g) Store kept (visit limit) (attempt g) s1 (bitOr s2 t) (visit limit st)
 

@@ -1,4 +1,5 @@
--- Laws of `enumerate_csg_rec` over the lent lists: a stopped store is changed by nothing, and each way through a function of the crate. Assumes nothing.
+-- Laws of `enumerate_csg_rec` over the lent lists: a stopped store is changed by nothing, and each way through a function of the crate.
+-- Assumes nothing.
 use mathlib.Core.Path.{_≡_, refl, sym, ap, _∙_}
 use mathlib.Core.Bool.{Bool, true, false}
 use Prim.Native.Nat.{ℕ, zero, suc, _-_}

@@ -1,5 +1,5 @@
--- `enumerate_csg_rec` over the lent lists: the definition's function at the state Store, for what the search is given. Below it what the code does between
--- two of its calls.
+-- `enumerate_csg_rec` over the lent lists: the definition's function at the state Store, for what the search is given. Below it what the code
+-- does between two of its calls.
 use Prim.Native.Nat.{ℕ}
 use lib.Bits.{bitOr}
 use Rattle.nodeset.specs.Subsets.{nonEmptySubsets}
@@ -11,7 +11,6 @@ abbrev pub storeCsgRec : Given → ℕ → ℕ → ℕ → ℕ → ℕ → Store
 storeCsgRec g limit e d s1 x st = enumerateCsgRec (edges g) Store kept (visit limit) (attempt g) e d s1 x st
 
 -- one subset t of the neighbours in its first pass, that pass, and one in its second pass, where y is excluded
-
 unfoldable pub visitEmit : Given → ℕ → ℕ → ℕ → ℕ → Store → Store
 visitEmit g limit e s1 t st = emitKept (edges g) Store kept (visit limit) (attempt g) e (bitOr s1 t) (visit limit st)
 
