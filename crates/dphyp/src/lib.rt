@@ -1,8 +1,6 @@
 // The search of join_ordering.rs over the lent stores, from the highest leaf down. What each function ensures is one equation of whole
 // stores: the lists and counts at exit are the definition's walk of those at entry. A stop ends the loop: what comes next is then 0.
-// Every function takes the first n edges
-// (left, right, predicate, source), the items' kinds, the predicates' selectivities, the plan and memo stores with their lengths (proom,
-// mroom), most of them the limit of visits, and the counts p; the stores are as in crate emit_csg_cmp.
+// Arguments are as in crate emit_csg_cmp, with the limit of visits.
 ghost use mathlib.Core.Path.{_≡_};
 ghost use Rattle.definition.specs.EdgeView.{Held};
 ghost use Rattle.candidate.specs.Store.{given, lists, store};

@@ -1,6 +1,7 @@
 // emit_csg_cmp of join_ordering.rs over the lent stores: a pair of sets is tried, and what is due for it is written. A store is one list for
 // each field; of a plan: pset, pleft, pright, plead, pkind, prows, pcost; of a memo entry: mset, mplan. A plan or an entry past a list's end is
-// not written, so that no function asks for room.
+// not written, so that no function asks for room. The other arguments: the first n edges (left, right, predicate, source), the items' kinds, the
+// predicates' selectivities, the stores' lengths (proom, mroom), and the counts p.
 ghost use mathlib.Core.Path.{_≡_};
 ghost use Prim.Native.Nat.{_<_};
 ghost use Rattle.cost.specs.View.{estimateOf};

@@ -1,7 +1,5 @@
 // enumerate_cmp_rec: a connected set s1 stands, and the other set of the pair grows. A stop ends each loop: what comes next is then 0.
-// Every function takes the first n edges
-// (left, right, predicate, source), the items' kinds, the predicates' selectivities, the plan and memo stores with their lengths (proom,
-// mroom), most of them the limit of visits, and the counts p; the stores are as in crate emit_csg_cmp.
+// Arguments are as in crate emit_csg_cmp, with the limit of visits.
 ghost use mathlib.Core.Path.{_≡_};
 ghost use Prim.Native.Nat.{_≤_};
 ghost use lib.ListN.{length};
