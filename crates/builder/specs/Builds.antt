@@ -1,21 +1,16 @@
 -- What a builder holds, as the definition's build, and what its functions keep of it.
 use mathlib.Core.Path.{_≡_}
-use mathlib.Core.Bool.{true, false}
 use mathlib.Core.List.{List, [], _∷_, _++_}
 use Prim.Native.Nat.{ℕ, zero, suc, _+_, _-_, _≤_, _<_}
 use lib.ListN.{length, getD, take, drop}
-use lib.Dec.{eqb}
 use Rattle.nodeset.specs.Sets.{singleton}
 use Rattle.definition.specs.Lists.{column}
-use Rattle.definition.specs.Question.{Range, part, OpenItem, OpenQuestion, inner, crossProduct, leaf}
 use Rattle.definition.specs.Hypergraph.{Edge}
-use Rattle.definition.specs.Edges.{Build, Sides, JoinRecord, innerEdges, otherEdges, withJoin, recordOf}
+use Rattle.definition.specs.Edges.{Build, Sides, JoinRecord, withJoin, recordOf}
 use Rattle.definition.specs.EdgeView.{edgesOf}
-use Rattle.sheet.specs.Views.{rangeOf}
 use Rattle.ses.specs.View.{leavesOf, Fits}
 use Rattle.tes.specs.Views.{joinsOf}
 use Rattle.builder.specs.declared.HypergraphBuilder.{HypergraphBuilder}
-use Rattle.builder.specs.declared.joins.JoinItem.{JoinItem}
 
 -- ---- the lists
 
@@ -119,10 +114,6 @@ buildOf sheet s =
 
 -- ---- steps of the definition's build
 
--- with these edges instead of its own
-abbrev pub withEdges : List Edge → Build → Build
-withEdges es b = record { leaves = b .leaves; edges = es; joins = b .joins; pile = b .pile }
-
 -- one leaf more: number k, with these columns
 abbrev pub withLeaf : ℕ → List ℕ → Build → Build
 withLeaf k columns b =
@@ -132,29 +123,11 @@ withLeaf k columns b =
 abbrev pub withRecord : ℕ → ℕ → ℕ → Sides → Build → Build
 withRecord t l r s b = withJoin (recordOf t l r s) (drop 2 (b .pile)) b
 
--- the edges of a join of this kind and type over the predicates p; s: its record sets
-abbrev pub edgesBy : OpenQuestion → ℕ → ℕ → ℕ → Range → ℕ → ℕ → Sides → Build → Build
-edgesBy q k kind t p l r s b =
-    let ps = part p (q .predicates) in
-    elim (eqb kind inner) [ true ↦ innerEdges (q .columns) k l r (p .first) ps b | false ↦ otherEdges s k t (p .first) ps b ]
-
-abbrev pub itemOf : JoinItem → OpenItem
-itemOf j = record { kind = j .kind; range = rangeOf (j .predicates) }
-
--- how many edges an item makes
-unfoldable pub itemEdges : OpenItem → ℕ
-itemEdges i = elim (eqb (i .kind) leaf) [ true ↦ 0 | false ↦ elim (eqb (i .kind) crossProduct) [ true ↦ 1 | false ↦ i .range .count ] ]
-
 -- ---- what the functions ask
 
 -- the leaves are held, each with a range that lies in the sheet's columns
 abbrev pub LeavesFit : List ℕ → HypergraphBuilder → List ℕ → Type 0
 LeavesFit sheet b numbers = Fits sheet (b .leaves) (section 64 numbers) (section 128 numbers)
-
-pub record Ready (sheet : List ℕ) (b : HypergraphBuilder) (numbers sets : List ℕ) : Type 0 where
-  pub leaves : LeavesFit sheet b numbers
-  pub joins : b .joins ≤ 64
-  pub places : Places numbers sets
 
 -- a join finds its two sides on the pile, and a place for its record
 pub record RoomFor (b : HypergraphBuilder) : Type 0 where

@@ -1,26 +1,23 @@
 -- What a builder holds after each write. Assumes nothing.
 use mathlib.Core.Path.{_≡_, refl, sym, ap, ap₂, _∙_}
 use mathlib.Core.Logic.{_⊎_, inl, inr}
-use mathlib.Core.List.{List, [], _∷_, _++_, append-nil}
+use mathlib.Core.List.{List, [], _∷_, _++_}
 use Prim.Native.Nat.{ℕ, zero, suc, _+_, _-_, _≤_, _<_}
 use native.Mathlib.Omega.{arith}
 use native.Mathlib.Numerals.{add-one}
 use native.Mathlib.Nat.{le-of-suc-le-suc, eq-or-lt-of-le}
-use lib.ListN.{length, getD, take, drop, set, length-set, length-drop, take-append-drop}
+use lib.ListN.{length, getD, take, drop, set, length-set, length-drop}
 use lib.Bits.{bitOr}
-use borrow.Author.Tests.{eq-eqb, ne-eqb}
-use lib.Seq.{getD-set-other, getD-set-same, drop-cons, drop-drop, drop-set-lt, drop-set-add, take-set-lt, take-set-le, length-take-le}
-use Rattle.nodeset.specs.Sets.{singleton, lowest}
-use Rattle.definition.specs.Lists.{tabulate, concatMap, member, column}
-use Rattle.definition.specs.ListLaws.{length-tabulate, tabulate-same, tabulate-more, map-tabulate, tabulate-take}
-use Rattle.definition.specs.Hypergraph.{Edge, none32}
-use Rattle.definition.specs.Question.{Range, part, OpenItem, OpenQuestion, crossProduct, leaf}
-use Rattle.definition.specs.Tables.{typeOf}
-use Rattle.definition.specs.Edges.{JoinRecord, Sides, Build, sidesFor, edgeOf, withEdge, innerEdges, otherEdges, recordOf, withJoin, crossItem}
+use lib.Seq.{getD-set-other, getD-set-same, drop-set-lt, drop-set-add, take-set-lt, take-set-le, length-take-le}
+use Rattle.nodeset.specs.Sets.{singleton}
+use Rattle.definition.specs.Lists.{tabulate}
+use Rattle.definition.specs.ListLaws.{tabulate-more}
+use Rattle.definition.specs.Hypergraph.{Edge}
+use Rattle.definition.specs.Edges.{JoinRecord, Sides, Build}
 use Rattle.definition.specs.EdgeView.{edgeAt, edgesOf}
 use Rattle.ses.specs.View.{columnsAt, leavesOf, Fit, Fits}
 use Rattle.tes.specs.Views.{joinAt, joinsOf}
-use Rattle.builder.specs.Builds.{EdgeLists, Places, section, state, counted, moreEdges, oneJoin, oneLeaf, edgesIn, joinsIn, edgesHeld, buildOf, withEdges, withLeaf, withRecord, pileOf, itemEdges, Behind, Added, Longer, Ready, RoomFor, LeavesFit}
+use Rattle.builder.specs.Builds.{EdgeLists, Places, section, state, oneJoin, oneLeaf, joinsIn, buildOf, withLeaf, withRecord, pileOf, Behind, Added, RoomFor, LeavesFit}
 use Rattle.builder.specs.declared.HypergraphBuilder.{HypergraphBuilder}
 
 -- ---- one place more
@@ -81,28 +78,10 @@ pile-two n p h =
     let f : n - 1 ≡ suc (n - 2) = omega arith in
     ap (λ (k : ℕ). pileOf k p) e ∙ ap (λ (k : ℕ). getD p k 0 ∷ (getD p (n - 2) 0 ∷ pileOf (n - 2) p)) (sym f)
 
-pub pile-length : (h : ℕ) (p : List ℕ) → length (pileOf h p) ≡ h
-unfolding pileOf
-pile-length zero p = refl
-pile-length (suc h) p = ap suc (pile-length h p)
-
 -- ---- the rest of the lists
 
 behind-put : (l : List ℕ) (n x : ℕ) → Behind (n + 1) l (set l n x)
 behind-put l n x = record { length-same = length-set l n x; same = drop-set-lt (n + 1) l n x (omega arith) }
-
-behind-self : (n : ℕ) (l : List ℕ) → Behind n l l
-behind-self n l = record { length-same = refl; same = refl }
-
-behind-more : (m n : ℕ) (x y z : List ℕ) → m ≤ n → Behind m x y → Behind n y z → Behind n x z
-behind-more m n x y z h p q =
-    record {
-      length-same = q .length-same ∙ p .length-same;
-      same = q .same ∙ sym (further y) ∙ ap (drop (n - m)) (p .same) ∙ further x;
-    }
-  where
-    further : (l : List ℕ) → drop (n - m) (drop m l) ≡ drop n l
-    further l = let e : m + (n - m) ≡ n = omega arith in drop-drop (n - m) m l ∙ ap (λ (k : ℕ). drop k l) e
 
 module _ (n : ℕ) (h : EdgeLists) (v w x y z : ℕ) where
   pub added-one : Added n (n + 1) h (record { left = set (h .left) n v; right = set (h .right) n w; predicate = set (h .predicate) n x; source = set (h .source) n y; kind = set (h .kind) n z })
@@ -115,84 +94,6 @@ module _ (n : ℕ) (h : EdgeLists) (v w x y z : ℕ) where
         source = behind-put (h .source) n y;
         kind = behind-put (h .kind) n z;
       }
-
-pub added-none : (n : ℕ) (h : EdgeLists) → Added n n h h
-added-none n h =
-    record {
-      grown = omega arith;
-      left = behind-self n (h .left);
-      right = behind-self n (h .right);
-      predicate = behind-self n (h .predicate);
-      source = behind-self n (h .source);
-      kind = behind-self n (h .kind);
-    }
-
-pub added-more : {m n o : ℕ} {h g f : EdgeLists} → Added m n h g → Added n o g f → Added m o h f
-added-more {m} {n} {o} p q =
-    record {
-      grown = omega (arith, p .grown, q .grown);
-      left = behind-more n o _ _ _ (q .grown) (p .left) (q .left);
-      right = behind-more n o _ _ _ (q .grown) (p .right) (q .right);
-      predicate = behind-more n o _ _ _ (q .grown) (p .predicate) (q .predicate);
-      source = behind-more n o _ _ _ (q .grown) (p .source) (q .source);
-      kind = behind-more n o _ _ _ (q .grown) (p .kind) (q .kind);
-    }
-
--- ---- how long they are
-
-pub longer-less : {x y : ℕ} {h : EdgeLists} → x ≤ y → Longer y h → Longer x h
-longer-less e l =
-    record { left = omega (arith, l .left); right = omega (arith, l .right); predicate = omega (arith, l .predicate); source = omega (arith, l .source); kind = omega (arith, l .kind) }
-
-pub longer-added : {m n x y : ℕ} {h g : EdgeLists} → Added m n h g → x ≤ y → Longer y h → Longer x g
-longer-added a e l =
-    record {
-      left = omega (arith, l .left, a .left .length-same);
-      right = omega (arith, l .right, a .right .length-same);
-      predicate = omega (arith, l .predicate, a .predicate .length-same);
-      source = omega (arith, l .source, a .source .length-same);
-      kind = omega (arith, l .kind, a .kind .length-same);
-    }
-
-pub added-to : {m n o : ℕ} {h g : EdgeLists} → n ≡ o → Added m n h g → Added m o h g
-added-to {m} {n} {o} {h} {g} e a = rw (sym e) a
-
--- ---- the counts, with more edges
-
-pub more-none : (b : HypergraphBuilder) {m : ℕ} → m ≡ 0 → b ≡ moreEdges m b
-more-none b {m} e = let f : b .edges ≡ b .edges + m = omega arith in ap (λ (k : ℕ). counted k (b .joins) (b .leaves) (b .height)) f
-
-pub more-more : (b : HypergraphBuilder) {c d : HypergraphBuilder} (m n : ℕ) {k : ℕ} → c ≡ moreEdges m b → d ≡ moreEdges n c → m + n ≡ k → d ≡ moreEdges k b
-more-more b {c} {d} m n {k} p q e =
-    let f : b .edges + m + n ≡ b .edges + k = omega arith in
-    q ∙ ap (moreEdges n) p ∙ ap (λ (x : ℕ). counted x (b .joins) (b .leaves) (b .height)) f
-
-pub edges-counted : (b : HypergraphBuilder) {c : HypergraphBuilder} (m : ℕ) → c ≡ moreEdges m b → c .edges ≡ b .edges + m
-edges-counted b m e = ap (λ (x : HypergraphBuilder). x .edges) e
-
-pub ready-after : (sheet : List ℕ) (b : HypergraphBuilder) {c : HypergraphBuilder} (m : ℕ) {numbers sets : List ℕ} → c ≡ moreEdges m b → Ready sheet b numbers sets → Ready sheet c numbers sets
-ready-after sheet b {c} m {numbers} {sets} e r = rw e (record { leaves = r .leaves; joins = r .joins; places = r .places })
-
-pub room-after : (b : HypergraphBuilder) {c : HypergraphBuilder} (m : ℕ) → c ≡ moreEdges m b → RoomFor b → RoomFor c
-room-after b {c} m e r = rw e (record { two = r .two; tall = r .tall; joins = r .joins })
-
--- the leaves are the same
-pub same-leaves : (b : HypergraphBuilder) {c d : HypergraphBuilder} (m : ℕ) → c ≡ moreEdges m b → d ≡ oneJoin c → d .leaves ≡ b .leaves
-same-leaves b m e f = ap (λ (x : HypergraphBuilder). x .leaves) f ∙ ap (λ (x : HypergraphBuilder). x .leaves) e
-
-pub fits-same : (sheet : List ℕ) {m n : ℕ} (numbers : List ℕ) → m ≡ n → Fits sheet n (section 64 numbers) (section 128 numbers) → Fits sheet m (section 64 numbers) (section 128 numbers)
-fits-same sheet numbers e f = rw e f
-
-pub fits-after : (sheet : List ℕ) (b : HypergraphBuilder) {c : HypergraphBuilder} (m : ℕ) (numbers : List ℕ) → c ≡ moreEdges m b → LeavesFit sheet b numbers → LeavesFit sheet c numbers
-fits-after sheet b m numbers e f = fits-same sheet numbers (ap (λ (x : HypergraphBuilder). x .leaves) e) f
-
-pub fits-back : (sheet : List ℕ) (b : HypergraphBuilder) {c : HypergraphBuilder} (m : ℕ) (numbers : List ℕ) → c ≡ moreEdges m b → LeavesFit sheet c numbers → LeavesFit sheet b numbers
-fits-back sheet b {c} m numbers e f = fits-same sheet numbers (sym (ap (λ (x : HypergraphBuilder). x .leaves) e)) f
-
-pub edge-built : (sheet : List ℕ) (b : HypergraphBuilder) {c : HypergraphBuilder} (e g : EdgeLists) (numbers sets : List ℕ) (x : Edge) → c ≡ moreEdges 1 b
-    → edgesIn (b .edges + 1) g ≡ edgesIn (b .edges) e ++ (x ∷ []) → buildOf sheet (state c g numbers sets) ≡ withEdge (buildOf sheet (state b e numbers sets)) x
-edge-built sheet b {c} e g numbers sets x p q =
-    ap (λ (y : HypergraphBuilder). buildOf sheet (state y g numbers sets)) p ∙ ap (λ (es : List Edge). withEdges es (buildOf sheet (state b e numbers sets))) q
 
 -- ---- the sections
 
@@ -304,110 +205,3 @@ module _ (sheet : List ℕ) (b : HypergraphBuilder) (numbers sets : List ℕ) (w
 
   pub leaf-fits : LeavesFit sheet b numbers → Fit sheet f c → LeavesFit sheet (oneLeaf b) after
   leaf-fits w fit = rw (firsts, counts) (fits-more sheet (b .leaves) (section 64 numbers) (section 128 numbers) f c w first-fits count-fits fit hk)
-
--- ---- the edges of a join, one predicate after the other
-
-pub other-same : (s : Sides) (k t n : ℕ) (ps qs : List Range) (b : Build) → length ps ≡ length qs → otherEdges s k t n ps b ≡ otherEdges s k t n qs b
-unfolding otherEdges
-other-same s k t n [] [] b e = refl
-other-same s k t n [] (q ∷ qs) b e = absurd (omega arith)
-other-same s k t n (p ∷ ps) [] b e = absurd (omega arith)
-other-same s k t n (p ∷ ps) (q ∷ qs) b e = other-same s k t (suc n) ps qs (withEdge b (edgeOf s n k t)) (omega arith)
-
-pub other-on : (s : Sides) (k t n : ℕ) (p : Range) (ps : List Range) (b c : Build) → c ≡ withEdge b (edgeOf s n k t)
-    → otherEdges s k t (n + 1) ps c ≡ otherEdges s k t n (p ∷ ps) b
-unfolding otherEdges
-other-on s k t n p ps b c e = ap₂ (λ (j : ℕ) (d : Build). otherEdges s k t j ps d) (add-one n) e
-
-pub other-end : (s : Sides) (k t n : ℕ) (b : Build) → otherEdges s k t n [] b ≡ b
-unfolding otherEdges
-other-end s k t n b = refl
-
--- the predicates from n on
-abbrev pub from : {A : Type 0} → ℕ → ℕ → List A → List A
-from n m ps = part (record { first = n; count = m }) ps
-
-from-step : {A : Type 0} (n m : ℕ) (ps : List A) (d : A) → 0 < m → n + m ≤ length ps → from n m ps ≡ getD ps n d ∷ from (n + 1) (m - 1) ps
-from-step n m ps d z h =
-    let e : m ≡ suc (m - 1) = omega arith in
-    ap₂ (λ (k : ℕ) (l : List _). take k l) e (drop-cons ps n d (omega arith)) ∙ ap (λ (k : ℕ). getD ps n d ∷ take (m - 1) (drop k ps)) (sym (add-one n))
-
-pub from-none : {A : Type 0} (n : ℕ) (ps : List A) → from n 0 ps ≡ []
-from-none n ps = refl
-
--- the columns of one predicate
-one-predicate : (q : OpenQuestion) (n : ℕ) → n < length (q .predicates)
-    → concatMap (λ (p : Range). part p (q .columns)) (from n 1 (q .predicates)) ≡ part (getD (q .predicates) n (record { first = 0; count = 0 })) (q .columns)
-unfolding concatMap
-one-predicate q n h =
-    ap (concatMap (λ (p : Range). part p (q .columns))) (from-step n 1 (q .predicates) (record { first = 0; count = 0 }) (omega arith) (omega arith))
-    ∙ append-nil (part (getD (q .predicates) n (record { first = 0; count = 0 })) (q .columns))
-
-pub inner-on : (q : OpenQuestion) (k l r n m : ℕ) (s : Sides) (b c : Build) → 0 < m → n + m ≤ length (q .predicates)
-    → s ≡ sidesFor b 0 l r (concatMap (λ (p : Range). part p (q .columns)) (from n 1 (q .predicates)))
-    → c ≡ withEdge b (edgeOf s n k 0)
-    → innerEdges (q .columns) k l r (n + 1) (from (n + 1) (m - 1) (q .predicates)) c ≡ innerEdges (q .columns) k l r n (from n m (q .predicates)) b
-unfolding innerEdges typeOf member
-inner-on q k l r n m s b c z h e f =
-    let none : Range = record { first = 0; count = 0 } in
-    ap₂ (λ (j : ℕ) (d : Build). innerEdges (q .columns) k l r j (from (n + 1) (m - 1) (q .predicates)) d) (add-one n)
-    (f ∙ ap (λ (x : Sides). withEdge b (edgeOf x n k 0)) (e ∙ ap (sidesFor b 0 l r) (one-predicate q n (omega arith))))
-    ∙ sym (ap (λ (ps : List Range). innerEdges (q .columns) k l r n ps b) (from-step n m (q .predicates) none z h))
-
-pub inner-end : (q : OpenQuestion) (k l r n : ℕ) (b : Build) → innerEdges (q .columns) k l r n (from n 0 (q .predicates)) b ≡ b
-unfolding innerEdges
-inner-end q k l r n b = refl
-
--- ---- the number of edges
-
-pub no-edges : (i : OpenItem) → i .kind ≡ leaf → 0 ≡ itemEdges i
-unfolding itemEdges
-no-edges i e = rw (eq-eqb (i .kind) leaf e, itemEdges)
-
-pub one-edge : (i : OpenItem) → i .kind ≡ crossProduct → 1 ≡ itemEdges i
-unfolding itemEdges
-one-edge i e = let l : i .kind ≡ leaf → ⊥ = λ f. omega arith in rw (ne-eqb (i .kind) leaf l, eq-eqb (i .kind) crossProduct e, itemEdges)
-
-pub each-predicate : (i : OpenItem) → (i .kind ≡ leaf → ⊥) → (i .kind ≡ crossProduct → ⊥) → i .range .count ≡ itemEdges i
-unfolding itemEdges
-each-predicate i e f = rw (ne-eqb (i .kind) leaf e, ne-eqb (i .kind) crossProduct f, itemEdges)
-
--- ---- the items
-
--- a cross product's edge, then its record
-pub crossed : (k l r : ℕ) (b : Build) {x y : ℕ} {c d : Build} → x ≡ singleton (lowest l) → y ≡ singleton (lowest r)
-    → c ≡ withEdge b (edgeOf (record { left = x; right = y }) none32 k 0) → d ≡ withJoin (recordOf 0 l r (record { left = x; right = y })) (drop 2 (c .pile)) c
-    → d ≡ crossItem k l r (drop 2 (b .pile)) b
-unfolding crossItem typeOf member
-crossed k l r b {x} {y} {c} {d} p q e f =
-    f ∙ ap (λ (z : Build). withJoin (recordOf 0 l r (record { left = x; right = y })) (drop 2 (z .pile)) z) e
-    ∙ ap₂ (λ (v w : ℕ). withJoin (recordOf 0 l r (record { left = v; right = w })) (drop 2 (b .pile)) (withEdge b (edgeOf (record { left = v; right = w }) none32 k 0))) p q
-
--- ---- the edges in their lists
-
-pub edges-held : (n : ℕ) (h : EdgeLists) → length (edgesIn n h) ≡ n
-unfolding edgesOf
-edges-held n h = length-tabulate n (edgeAt (h .left) (h .right) (h .predicate) (h .source) (h .kind))
-
--- one field of them
-module _ (n : ℕ) (g : EdgeLists) where
-  abbrev at : ℕ → Edge
-  at i = edgeAt (g .left) (g .right) (g .predicate) (g .source) (g .kind) i
-
-  one-held : (f : Edge → ℕ) (before after : List ℕ) → ((i : ℕ) → f (at i) ≡ getD after i 0) → n ≤ length after → Behind n before after → after ≡ column f (edgesIn n g) before
-  unfolding edgesOf
-  one-held f before after same h b =
-      sym (take-append-drop n after)
-      ∙ ap₂ (λ (x y : List ℕ). x ++ y)
-      (sym (map-tabulate f n at ∙ tabulate-same n (λ i. f (at i)) (λ i. getD after i 0) (λ i z. same i) ∙ tabulate-take n after h))
-      (b .same ∙ ap (λ (k : ℕ). drop k before) (sym (edges-held n g)))
-
-pub lists-held : (m n : ℕ) (h g : EdgeLists) → Added m n h g → Longer n g → g ≡ edgesHeld (edgesIn n g) h
-lists-held m n h g a l =
-    lists-eq (one-held n g (λ e. e .left) _ _ (λ i. refl) (l .left) (a .left)) (one-held n g (λ e. e .right) _ _ (λ i. refl) (l .right) (a .right))
-    (one-held n g (λ e. e .predicate) _ _ (λ i. refl) (l .predicate) (a .predicate)) (one-held n g (λ e. e .source) _ _ (λ i. refl) (l .source) (a .source))
-    (one-held n g (λ e. e .type) _ _ (λ i. refl) (l .kind) (a .kind))
-  where
-    lists-eq : {a b c d e f g h i j : List ℕ} → a ≡ f → b ≡ g → c ≡ h → d ≡ i → e ≡ j
-        → _≡_ {A = EdgeLists} (record { left = a; right = b; predicate = c; source = d; kind = e }) (record { left = f; right = g; predicate = h; source = i; kind = j })
-    lists-eq p q r s t = cc

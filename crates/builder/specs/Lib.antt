@@ -2,4 +2,3 @@
 pub mod Builds
 -- Laws.
 pub mod Laws
-pub mod JoinLaws

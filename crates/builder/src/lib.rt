@@ -1,8 +1,6 @@
 // The state of edge building, after HypergraphBuilder of hypergraph.rs. Edges are written straight to the caller's lists. The earlier joins, the
 // leaves and the pile stand in two lists of sections of 64 places. numbers: the joins' types, then the leaves' first columns and their column
 // counts. sets: the pile, then the joins' left and right leaves and their left and right record sets. The builder says how many places count.
-mod joins;
-
 ghost use mathlib.Core.Path.{_≡_};
 ghost use mathlib.Core.List.{List, [], _∷_, _++_};
 ghost use Prim.Native.Nat.{ℕ, _+_, _<_};
@@ -10,24 +8,26 @@ ghost use Rattle.definition.specs.Edges.{edgeOf};
 ghost use Rattle.ses.specs.View.{Fit, columnsAt};
 ghost use Rattle.tes.specs.Views.{sidesOf};
 ghost use Rattle.builder.specs.Builds.{EdgeLists, counted, edgeLists, state, edgesIn, buildOf, withLeaf, withRecord, moreEdges, oneJoin, oneLeaf, Longer, Added, Places, RoomFor, LeavesFit};
-pub use joins::JoinItem;
-pub use joins::cross_item;
-pub use joins::join_item;
 use sheet::Range;
 use tes::Sides;
 
-// Where the sections begin.
-const FIRST: usize = 64;
+// Where the leaves' first columns begin in numbers.
+pub const FIRST: usize = 64;
 
-const COUNT: usize = 128;
+// Where the leaves' column counts begin in numbers.
+pub const COUNT: usize = 128;
 
-const LEFT_NODES: usize = 64;
+// Where the joins' left leaves begin in sets.
+pub const LEFT_NODES: usize = 64;
 
-const RIGHT_NODES: usize = 128;
+// Where the joins' right leaves begin in sets.
+pub const RIGHT_NODES: usize = 128;
 
-const TES_LEFT: usize = 192;
+// Where the joins' left record sets begin in sets.
+pub const TES_LEFT: usize = 192;
 
-const TES_RIGHT: usize = 256;
+// Where the joins' right record sets begin in sets.
+pub const TES_RIGHT: usize = 256;
 
 pub struct HypergraphBuilder {
     pub edges: usize,
@@ -52,7 +52,7 @@ impl HypergraphBuilder {
     }
 
     // One edge more. p: the predicate, or none; k: the source item; t: the type.
-    fn add_edge(
+    pub fn add_edge(
         self,
         left: &mut [u64],
         right: &mut [u64],
@@ -84,7 +84,7 @@ impl HypergraphBuilder {
     }
 
     // The record of a join of the two top things on the pile, l and r, and the join in their place.
-    fn add_join(
+    pub fn add_join(
         self,
         numbers: &mut [u32],
         sets: &mut [u64],

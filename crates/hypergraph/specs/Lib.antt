@@ -1,4 +1,6 @@
 -- Definitions.
 pub mod Walk
 -- Laws.
+pub mod HeldLaws
+pub mod ItemLaws
 pub mod WalkLaws

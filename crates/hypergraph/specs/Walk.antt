@@ -1,13 +1,18 @@
 -- What holds along the walk of the items. Definitions only.
 use mathlib.Core.Path.{_≡_}
-use mathlib.Core.Bool.{true}
+use mathlib.Core.Bool.{true, false}
 use mathlib.Core.List.{List}
 use Prim.Native.Nat.{ℕ, _+_, _≤_, _<_}
 use lib.ListN.{length, drop}
-use Rattle.definition.specs.Question.{openQuestion, leafCount, endsWithOne}
+use lib.Dec.{eqb}
+use Rattle.definition.specs.Question.{OpenItem, crossProduct, leaf, openQuestion, leafCount, endsWithOne}
 use Rattle.definition.specs.Sheet.{questionOf}
 use Rattle.definition.specs.Edges.{edgeCount}
 use Rattle.builder.specs.Builds.{State, Longer, LeavesFit, Places}
+
+-- how many edges an item makes
+unfoldable pub itemEdges : OpenItem → ℕ
+itemEdges i = elim (eqb (i .kind) leaf) [ true ↦ 0 | false ↦ elim (eqb (i .kind) crossProduct) [ true ↦ 1 | false ↦ i .range .count ] ]
 
 -- before item k of a sheet whose walk is right: there is room for what comes
 pub record Along (sheet : List ℕ) (k : ℕ) (s : State) : Type 0 where

@@ -21,10 +21,13 @@ use Rattle.definition.specs.EdgeCount.{JoinFits, join-height, item-height, item
 use Rattle.definition.specs.InputLaws.{sound-edges-counted}
 use Rattle.ses.specs.View.{columnsAt, Fit, Named}
 use Rattle.tes.specs.Views.{joinAt, joinsOf}
-use Rattle.builder.specs.Builds.{section, LeavesFit, Places, State, state, counted, pileOf, buildOf, edgesIn, edgesHeld, EdgeLists, withLeaf, edgesBy, itemEdges, Longer, Added, Ready, RoomFor}
-use Rattle.builder.specs.Laws.{fits-same, pile-two, pile-length, edges-held, longer-less, longer-added, lists-held}
-use Rattle.builder.specs.JoinLaws.{by-rest}
-use Rattle.hypergraph.specs.Walk.{Along}
+use Rattle.builder.specs.Builds.{section, LeavesFit, Places, State, state, counted, pileOf, buildOf, edgesIn, edgesHeld, EdgeLists, withLeaf, Longer, Added, RoomFor}
+use Rattle.builder.specs.Laws.{pile-two}
+use Rattle.joins.specs.Joins.{edgesBy, Ready}
+use Rattle.joins.specs.Laws.{fits-same, longer-less, longer-added}
+use Rattle.joins.specs.JoinLaws.{by-rest}
+use Rattle.hypergraph.specs.HeldLaws.{pile-length, edges-held, lists-held}
+use Rattle.hypergraph.specs.Walk.{itemEdges, Along}
 
 -- ---- the number of edges
 

@@ -8,10 +8,10 @@ ghost use Rattle.definition.specs.Sheet.{questionOf};
 ghost use Rattle.definition.specs.Accepted.{Sound};
 ghost use Rattle.definition.specs.Edges.{join, buildItem, buildHypergraph, edgeCount};
 ghost use Rattle.sheet.specs.Views.{Placed};
-ghost use Rattle.builder.specs.Builds.{edgeLists, edgesHeld, state, buildOf, itemEdges, Longer, Added};
-ghost use Rattle.hypergraph.specs.Walk.{Along};
+ghost use Rattle.builder.specs.Builds.{edgeLists, edgesHeld, state, buildOf, Longer, Added};
+ghost use Rattle.hypergraph.specs.Walk.{itemEdges, Along};
 use builder::HypergraphBuilder;
-use builder::JoinItem;
+use joins::JoinItem;
 use sheet::Sections;
 
 // How many edges the items make, by their words alone.
@@ -78,9 +78,9 @@ fn item(
         right: sets[h - 1],
     };
     if item_kind == 8 {
-        return builder::cross_item(b, left, right, predicate, source, kind, numbers, sets, j);
+        return joins::cross_item(b, left, right, predicate, source, kind, numbers, sets, j);
     }
-    builder::join_item(
+    joins::join_item(
         b,
         sheet,
         s,

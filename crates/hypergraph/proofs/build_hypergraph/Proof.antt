@@ -2,7 +2,7 @@ use Rattle.hypergraph.proofs.build_hypergraph.Statement.{statement}
 use Rattle.hypergraph.proofs.build_hypergraph.Tie as tie
 use Rattle.hypergraph.specs.WalkLaws.{along-start, rest, rest-step, rest-end, whole-count, whole-few, whole-lists}
 use Rattle.hypergraph.specs.Walk.{Along}
-use Rattle.builder.specs.Laws.{added-none, added-more, longer-less}
+use Rattle.joins.specs.Laws.{added-none, added-more, longer-less}
 use Rattle.builder.specs.Builds.{edgeLists, state, buildOf, pileOf, Added}
 use Rattle.tes.specs.Views.{joinsOf}
 use Rattle.definition.specs.SheetLaws.{length-items}

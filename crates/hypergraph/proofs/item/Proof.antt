@@ -2,8 +2,8 @@ use borrow.Author.Needs.{needs}
 use Rattle.hypergraph.proofs.item.Statement.{statement}
 use Rattle.hypergraph.proofs.item.Tie as tie
 use Rattle.hypergraph.specs.WalkLaws.{leaves-held, leaf-built, join-next, room-leaf, along-ready, two, room-join, room-edges, named, leaf-fits, along-next}
-use Rattle.builder.specs.JoinLaws.{by-cross, by-join}
-use Rattle.builder.specs.Laws.{added-none, added-to, longer-less, fits-same, one-edge, each-predicate}
+use Rattle.hypergraph.specs.ItemLaws.{one-edge, each-predicate, by-cross, by-join}
+use Rattle.joins.specs.Laws.{added-none, added-to, longer-less, fits-same}
 use Rattle.builder.specs.declared.HypergraphBuilder.{HypergraphBuilder}
 use Rattle.builder.specs.Builds.{edgeLists, state, buildOf}
 use Rattle.sheet.specs.Views.{rangeOf}

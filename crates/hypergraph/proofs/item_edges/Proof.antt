@@ -4,7 +4,7 @@ use Rattle.hypergraph.proofs.item_edges.Tie as tie
 use mathlib.Core.Path.{sym, ap, _∙_}
 use native.Mathlib.Omega.{arith}
 use Rattle.definition.specs.Question.{Range}
-use Rattle.builder.specs.Laws.{no-edges, one-edge, each-predicate}
+use Rattle.hypergraph.specs.ItemLaws.{no-edges, one-edge, each-predicate}
 
 item-kind-requires : tie.Need-item-kind-requires
 item-kind-requires c κs = search needs

@@ -1,9 +1,10 @@
 use borrow.Author.Needs.{needs}
-use Rattle.builder.proofs.joins.cross_item.Statement.{statement}
-use Rattle.builder.proofs.joins.cross_item.Tie as tie
-use Rattle.builder.specs.Laws.{added-to, edge-built, room-after, same-leaves, fits-after, fits-back, crossed}
+use Rattle.joins.proofs.cross_item.Statement.{statement}
+use Rattle.joins.proofs.cross_item.Tie as tie
+use Rattle.joins.specs.JoinLaws.{crossed}
+use Rattle.joins.specs.Laws.{added-to, edge-built, room-after, same-leaves, fits-after, fits-back}
 use Rattle.builder.specs.declared.HypergraphBuilder.{HypergraphBuilder}
 use Rattle.builder.specs.Builds.{edgeLists, state, oneJoin, buildOf}
 use Rattle.definition.specs.Edges.{Sides, edgeOf}
 use Rattle.definition.specs.Hypergraph.{none32}
 use Rattle.nodeset.specs.Sets.{singleton}

@@ -1,10 +1,10 @@
 use borrow.Author.Needs.{needs}
-use Rattle.builder.proofs.joins.join_item.Statement.{statement}
-use Rattle.builder.proofs.joins.join_item.Tie as tie
-use Rattle.builder.specs.JoinLaws.{joined}
-use Rattle.builder.specs.Laws.{added-to, room-after, same-leaves, fits-after, fits-back}
+use Rattle.joins.proofs.join_item.Statement.{statement}
+use Rattle.joins.proofs.join_item.Tie as tie
+use Rattle.joins.specs.JoinLaws.{joined}
+use Rattle.joins.specs.Laws.{added-to, room-after, same-leaves, fits-after, fits-back}
 use Rattle.builder.specs.declared.HypergraphBuilder.{HypergraphBuilder}
 use Rattle.builder.specs.Builds.{edgeLists, state, oneJoin, buildOf, withRecord}
 use Rattle.tes.specs.Views.{sidesOf}
 use Rattle.sheet.specs.Views.{rangeOf}
 use Rattle.definition.specs.Sheet.{questionOf}

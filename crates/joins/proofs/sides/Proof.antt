@@ -1,7 +1,7 @@
 use borrow.Author.Needs.{needs}
-use Rattle.builder.proofs.joins.sides.Statement.{statement}
-use Rattle.builder.proofs.joins.sides.Tie as tie
+use Rattle.joins.proofs.sides.Statement.{statement}
+use Rattle.joins.proofs.sides.Tie as tie
 use Rattle.builder.specs.Builds.{edgeLists, edgesIn, joinsIn}
 use Rattle.tes.specs.Laws.{both-sides}
 use Rattle.definition.specs.Edges.{widen, sidesFor}
 use mathlib.Core.Path.{_∙_, ap}

@@ -1,7 +1,9 @@
-use Rattle.builder.proofs.joins.other_edges.Statement.{statement}
-use Rattle.builder.proofs.joins.other_edges.Tie as tie
-use Rattle.builder.specs.Laws.{added-none, added-more, added-to, more-none, more-more, edges-counted, longer-added, other-same, other-on, other-end}
-use Rattle.builder.specs.Builds.{edgeLists, edgesIn, moreEdges, withEdges, Added}
+use Rattle.joins.proofs.other_edges.Statement.{statement}
+use Rattle.joins.proofs.other_edges.Tie as tie
+use Rattle.joins.specs.JoinLaws.{other-same, other-on, other-end}
+use Rattle.joins.specs.Laws.{added-none, added-more, added-to, more-none, more-more, edges-counted, longer-added}
+use Rattle.joins.specs.Joins.{withEdges}
+use Rattle.builder.specs.Builds.{edgeLists, edgesIn, moreEdges, Added}
 use Rattle.tes.specs.Views.{sidesOf}
 use Rattle.definition.specs.Edges.{Build, otherEdges}
 use Rattle.definition.specs.Hypergraph.{Edge}

@@ -1,8 +1,9 @@
-use Rattle.builder.proofs.joins.inner_edges.Statement.{statement}
-use Rattle.builder.proofs.joins.inner_edges.Tie as tie
-use Rattle.builder.specs.Laws.{added-none, added-more, added-to, more-none, more-more, edges-counted, longer-added, ready-after, edge-built, from, inner-on, inner-end}
+use Rattle.joins.proofs.inner_edges.Statement.{statement}
+use Rattle.joins.proofs.inner_edges.Tie as tie
+use Rattle.joins.specs.JoinLaws.{from, inner-on, inner-end}
+use Rattle.joins.specs.Laws.{added-none, added-more, added-to, more-none, more-more, edges-counted, longer-added, ready-after, edge-built}
 use Rattle.builder.specs.declared.HypergraphBuilder.{HypergraphBuilder}
 use Rattle.builder.specs.Builds.{edgeLists, state, moreEdges, buildOf, Longer, Added}
 use Rattle.tes.specs.Views.{sidesOf}
 use Rattle.definition.specs.Edges.{edgeOf, innerEdges}
 use Rattle.definition.specs.SheetLaws.{length-predicates}

@@ -1,8 +1,8 @@
 use borrow.Author.Needs.{needs}
-use Rattle.builder.proofs.joins.join_edges.Statement.{statement}
-use Rattle.builder.proofs.joins.join_edges.Tie as tie
-use Rattle.builder.specs.JoinLaws.{by-inner, by-other}
+use Rattle.joins.proofs.join_edges.Statement.{statement}
+use Rattle.joins.proofs.join_edges.Tie as tie
+use Rattle.joins.specs.JoinLaws.{by-inner, by-other}
 use Rattle.builder.specs.Builds.{edgeLists, state, buildOf}
 use Rattle.tes.specs.Views.{sidesOf}
 use Rattle.sheet.specs.Views.{rangeOf}
 use Rattle.definition.specs.SheetLaws.{length-predicates}

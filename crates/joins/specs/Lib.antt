@@ -1,0 +1,5 @@
+-- Definitions.
+pub mod Joins
+-- Laws.
+pub mod Laws
+pub mod JoinLaws
