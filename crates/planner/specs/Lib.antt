@@ -5,6 +5,6 @@ pub mod ReadBack
 pub mod Rules
 -- Laws.
 pub mod RunLaws
-pub mod CallLaws
 pub mod ReadBackLaws
 pub mod RuleLaws
+pub mod CallLaws

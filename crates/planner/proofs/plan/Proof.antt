@@ -1,15 +1,9 @@
 use borrow.Author.Needs.{needs}
 use Rattle.planner.proofs.plan.Statement.{statement}
 use Rattle.planner.proofs.plan.Tie as tie
-use mathlib.Core.Path.{_≡_}
 use Rattle.definition.specs.Sheet.{Bytes}
-use Rattle.definition.specs.Call.{call}
-use Rattle.planner.specs.declared.Report.{Report}
-use Rattle.planner.specs.Answers.{reported}
-use Rattle.planner.specs.Lent.{Lent, lent, roomsIn, holds}
-use Rattle.planner.specs.Rules.{OpenList, KeptPlans, FiniteCosts}
-use Rattle.planner.specs.RuleLaws.{open-list, kept-plans, finite-costs}
-use Rattle.planner.specs.CallLaws.{call-accepted, refused-answer, refused-lists, accepted-answer, accepted-lists}
+use Rattle.planner.specs.Lent.{Lent, lent}
+use Rattle.planner.specs.CallLaws.{call-accepted, call-refuses, call-runs}
 use Rattle.checks.specs.RoomLaws.{rooms-eq}
 
 abbrev held : tie.Start → Lent
@@ -17,16 +11,6 @@ held s = lent (s .args .eleft .now) (s .args .eright .now) (s .args .epredicate 
 
 bytes : (k : tie.After-shared-slice-known) → Bytes (k .before .args .sheet .now)
 bytes k i = k .shared-slice-known .given i .fits
-
-rules : (k : tie.After-shared-slice-known) (r : Report) (l : Lent)
-    → r ≡ reported (call (k .before .args .sheet .now) (roomsIn (held (k .before))) (k .before .args .limit))
-    → l ≡ holds (call (k .before .args .sheet .now) (roomsIn (held (k .before))) (k .before .args .limit)) (held (k .before))
-    → OpenList (k .before .args .sheet .now) (k .before .args .limit) (held (k .before)) r l
-    × KeptPlans (k .before .args .sheet .now) (k .before .args .limit) (held (k .before)) r l
-    × FiniteCosts (k .before .args .sheet .now) r l
-rules k r l answer lists =
-    let a = k .before .args in
-    (open-list (a .sheet .now) (bytes k) (a .limit) (held (k .before)) r l answer lists, kept-plans (a .sheet .now) (bytes k) (a .limit) (held (k .before)) r l answer lists, finite-costs (a .sheet .now) (bytes k) (a .limit) (held (k .before)) r l answer lists)
 
 edge-room-requires : tie.Need-edge-room-requires
 edge-room-requires c κs = search needs
@@ -48,12 +32,13 @@ enum-known-q c = search needs
 
 run-requires : tie.Need-run-requires
 run-requires c κs =
-    let f = c .before .before .before .before .before .before .before .before .before .before .before .before .before .before .before .before .before .before .before .before .before .before .before .before .before .before .before .before .before .before .before .before .before .before .before .before in
+    let k = c .before .before .before .before .before .before .before .before .before .before .before .before .before .before .before .before .before .before .before .before .before .before .before .before .before .before .before .before .before .before .before .before .before .before .before in
+    let f = k .before in
     let check = c .before .before .before .before .before .before .before .before .before .before .before .before .before .before .before .before .before .check in
     let is = c .before .before .before .before .before .before .before .before .before .before .before .before .before .before .before .q .given .1 in
     let same = rooms-eq (c .before .before .before .before .before .before .before .before .before .before .before .before .before .before .before .before .before .before .before .before .edge-room .ensures) (c .before .before .before .before .before .before .before .before .before .before .before .before .before .before .before .before .before .before .before .plan-room .ensures) (c .before .before .before .before .before .before .before .before .before .before .before .before .before .before .before .before .before .before .memo-room .ensures) in
     record {
-      accepted = call-accepted (f .args .sheet .now) (f .args .limit) (check .result) (held f) _ same (check .ensures .0) is;
+      accepted = call-accepted (f .args .sheet .now) (bytes k) (f .args .limit) (check .result) (held f) _ same (check .ensures .0) is;
       sections = check .ensures .1 _ is .0;
       leaves = check .ensures .1 _ is .1;
       rooms-are = same;
@@ -66,10 +51,7 @@ returns c =
     let check = c .before .before .before .check in
     let is = c .before .f .given .1 in
     let same = rooms-eq (c .before .before .before .before .before .before .edge-room .ensures) (c .before .before .before .before .before .plan-room .ensures) (c .before .before .before .before .memo-room .ensures) in
-    let answer = refused-answer (f .args .sheet .now) (f .args .limit) (check .result) (held f) _ same (check .ensures .0) is in
-    let lists = refused-lists (f .args .sheet .now) (f .args .limit) (check .result) (held f) _ same (check .ensures .0) is in
-    let ruled = rules k _ _ answer lists in
-    (answer, (lists, (ruled .0, (ruled .1, ruled .2))))
+    call-refuses (f .args .sheet .now) (bytes k) (f .args .limit) (check .result) (held f) _ same (check .ensures .0) is
 
 same-length : tie.Need-same-length
 same-length c = c .before .before .before .before .before .before .before .before .before .before .before .before .before .before .before .before .before .before .before .before .before .before .before .before .before .before .before .before .run .kept .1 .1 .1 .1 .0
@@ -121,10 +103,7 @@ returns-2 c =
     let is = c .before .before .before .before .before .before .before .before .before .before .before .before .before .before .before .before .before .before .before .before .before .before .before .before .before .before .before .before .before .before .before .before .before .before .before .before .before .before .before .before .before .before .before .before .q .given .1 in
     let same = rooms-eq (c .before .before .before .before .before .before .before .before .before .before .before .before .before .before .before .before .before .before .before .before .before .before .before .before .before .before .before .before .before .before .before .before .before .before .before .before .before .before .before .before .before .before .before .before .before .before .before .before .before .edge-room .ensures) (c .before .before .before .before .before .before .before .before .before .before .before .before .before .before .before .before .before .before .before .before .before .before .before .before .before .before .before .before .before .before .before .before .before .before .before .before .before .before .before .before .before .before .before .before .before .before .before .before .plan-room .ensures) (c .before .before .before .before .before .before .before .before .before .before .before .before .before .before .before .before .before .before .before .before .before .before .before .before .before .before .before .before .before .before .before .before .before .before .before .before .before .before .before .before .before .before .before .before .before .before .before .memo-room .ensures) in
     let r = c .before .before .before .before .before .before .before .before .before .before .before .before .before .before .before .before .before .before .before .before .before .before .before .before .before .before .before .before .run .ensures in
-    let answer = accepted-answer (f .args .sheet .now) (f .args .limit) (check .result) (held f) _ same (check .ensures .0) is (r .0) in
-    let lists = accepted-lists (f .args .sheet .now) (f .args .limit) (check .result) (held f) _ same (check .ensures .0) is (r .1) in
-    let ruled = rules k _ _ answer lists in
-    (answer, (lists, (ruled .0, (ruled .1, ruled .2))))
+    call-runs (f .args .sheet .now) (bytes k) (f .args .limit) (check .result) (held f) _ same (check .ensures .0) is _ _ (r .0) (r .1)
 
 pub plan-spec : {M : Type 1} → statement M
 plan-spec =
