@@ -11,11 +11,11 @@ use Rattle.checks.specs.declared.Refusal.the-variants.{Sheet, TooManyEdges, Sto
 use Rattle.checks.specs.declared.Question.{Question}
 use Rattle.checks.specs.declared.Checked.{Checked}
 use Rattle.checks.specs.declared.Checked.the-variants as checked
-use Rattle.planner.specs.declared.Answer.the-variants as answer
+use Rattle.answer.specs.declared.Answer.the-variants as answer
 use Rattle.checks.specs.Answers.{refusalNumber, checkedNumber}
-use Rattle.planner.specs.declared.Report.{Report}
-use Rattle.planner.specs.Answers.{reported, reportedOf}
-use Rattle.planner.specs.Lent.{Lent, roomsIn, holds}
+use Rattle.answer.specs.declared.Report.{Report}
+use Rattle.answer.specs.Answers.{reported, reportedOf}
+use Rattle.run.specs.Lent.{Lent, roomsIn, holds}
 use Rattle.planner.specs.Rules.{Planned}
 use Rattle.planner.specs.RuleLaws.{planned}
 

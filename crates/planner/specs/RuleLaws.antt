@@ -9,9 +9,9 @@ use Rattle.definition.specs.OpenRule.{OpenListRule, SameOpenBytes, Selectivitie
 use Rattle.definition.specs.OpenRuleLaws.{open-list-rule}
 use Rattle.definition.specs.PlanRule.{CallPlanRule, AllFinite}
 use Rattle.definition.specs.PlanRuleLaws.{plan-rule, call-finite, call-pairs}
-use Rattle.planner.specs.declared.Report.{Report}
-use Rattle.planner.specs.Answers.{reported}
-use Rattle.planner.specs.Lent.{Lent, roomsIn, holds}
+use Rattle.answer.specs.declared.Report.{Report}
+use Rattle.answer.specs.Answers.{reported}
+use Rattle.run.specs.Lent.{Lent, roomsIn, holds}
 use Rattle.planner.specs.ReadBack.{readBack}
 use Rattle.planner.specs.ReadBackLaws.{read-back}
 use Rattle.planner.specs.Rules.{OpenList, KeptPlans, FiniteCosts, Planned}

@@ -6,9 +6,9 @@ use Prim.Native.Nat.{ℕ}
 use Rattle.definition.specs.Call.{accepted, leavesIn, call}
 use Rattle.definition.specs.OpenRule.{OpenListRule}
 use Rattle.definition.specs.PlanRule.{CallPlanRule, AllFinite}
-use Rattle.planner.specs.declared.Report.{Report}
-use Rattle.planner.specs.Answers.{reported}
-use Rattle.planner.specs.Lent.{Lent, roomsIn, holds}
+use Rattle.answer.specs.declared.Report.{Report}
+use Rattle.answer.specs.Answers.{reported}
+use Rattle.run.specs.Lent.{Lent, roomsIn, holds}
 use Rattle.planner.specs.ReadBack.{readBack}
 
 -- ---- demand 3, over what is read back from the answer and the lists
