@@ -1,6 +1,5 @@
 // The planner's call: a sheet's bytes, a visit limit and the lent lists to an answer. Every sheet, list length and limit gets one. The edge
 // lists are eleft to ekind, the plan lists pset to pcost, the memo lists mset and mplan.
-ghost use mathlib.Core.Path.{_≡_};
 ghost use Rattle.definition.specs.Call.{defaultLimit};
 ghost use Rattle.answer.specs.Answers.{reportedOf};
 ghost use Rattle.run.specs.Lent.{lent};

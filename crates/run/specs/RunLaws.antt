@@ -32,7 +32,7 @@ use Rattle.search.specs.declared.Searched.{Searched}
 use Rattle.checks.specs.declared.Question.{Question}
 use Rattle.answer.specs.declared.Outcome.{Outcome}
 use Rattle.answer.specs.Answers.{reported, endedAs}
-use Rattle.builder.specs.Builds.{EdgeLists, edgeLists, edgesHeld, Longer}
+use Rattle.builder.specs.Builds.{EdgeLists, edgesHeld, Longer}
 use Rattle.run.specs.Lent.{Lent, roomsIn, holds, givenFor, Runs}
 use Rattle.run.specs.FieldLaws.{front, read-all}
 use Rattle.checks.specs.RoomLaws.{store-first, store-rest, Room, not-refused}
