@@ -5,9 +5,9 @@ mod entries;
 mod lists;
 mod record;
 
+use answer::Answer;
+use answer::Report;
 use libc::STDOUT_FILENO;
-use planner::Answer;
-use planner::Report;
 ghost use mathlib.Core.Path.{_≡_};
 ghost use Prim.Native.Nat.{_+_, _*_, _<_, _≤_};
 ghost use lib.ListN.{length};

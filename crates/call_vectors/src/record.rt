@@ -1,6 +1,6 @@
 // A recorded call, behind its sheet: 14 list lengths, the limit, the answer, the numbers of edges, plans and memo entries, the visits and the
 // chosen plan, each a word; then the edges of 28 bytes, the plans of 40 and the memo entries of 12.
-use planner::Report;
+use answer::Report;
 ghost use Prim.Native.Nat.{_<_, _≤_};
 
 // How many entries a record has of each kind, and where they begin.

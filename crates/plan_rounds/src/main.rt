@@ -1,8 +1,8 @@
 // Calls the planner many times on one sheet, for the bench (docs/BENCH.md). Standard input: the number of rounds, four bytes, the lowest
 // first; then the sheet. Prints the last call's answer number, edges, plans, memo entries, visits and chosen plan.
+use answer::Report;
 use libc::STDIN_FILENO;
 use libc::STDOUT_FILENO;
-use planner::Report;
 use search::Ending;
 ghost use Prim.Native.Nat.{_<_};
 

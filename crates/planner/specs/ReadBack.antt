@@ -8,8 +8,8 @@ use Rattle.definition.specs.PlanRule.{pairsIn}
 use Rattle.definition.specs.Call.{Outcome}
 use Rattle.store.specs.Estimates.{estimateAt}
 use Rattle.candidate.specs.Store.{Lists}
-use Rattle.planner.specs.declared.Report.{Report}
-use Rattle.planner.specs.Lent.{Lent}
+use Rattle.answer.specs.declared.Report.{Report}
+use Rattle.run.specs.Lent.{Lent}
 
 abbrev pub planIn : Lists → ℕ → Plan
 planIn h i =

@@ -1,14 +1,10 @@
 -- What is read back is the definition's outcome. Assumes nothing.
-use mathlib.Core.Path.{_≡_, refl, sym, ap, ap₂, _∙_}
-use mathlib.Core.List.{List, [], _∷_, _++_, map}
-use Prim.Native.Nat.{ℕ, zero, suc, _<_}
-use native.Mathlib.Omega.{arith}
-use native.Mathlib.Nat.{not-suc-le-zero, le-of-suc-le-suc}
+use mathlib.Core.Path.{_≡_, sym, ap, ap₂, _∙_}
+use mathlib.Core.List.{List}
+use Prim.Native.Nat.{ℕ}
 use lib.ListN.{length, getD, drop}
-use lib.Seq.{ext-getD}
 use lib.Ieee.{Float}
 use Rattle.definition.specs.Lists.{tabulate}
-use Rattle.definition.specs.ListLaws.{length-tabulate, getD-tabulate}
 use Rattle.definition.specs.Hypergraph.{Edge, noEdge}
 use Rattle.definition.specs.EdgeView.{edgeAt, edgesOf}
 use Rattle.definition.specs.Search.{Plan, Entry, Pair, absent}
@@ -16,22 +12,11 @@ use Rattle.definition.specs.PlanRule.{pairsIn}
 use Rattle.definition.specs.Call.{Outcome}
 use Rattle.store.specs.Estimates as estimates
 use Rattle.candidate.specs.Store.{Lists}
-use Rattle.planner.specs.Answers.{reported}
+use Rattle.answer.specs.Answers.{reported}
 use Rattle.builder.specs.Builds.{EdgeLists, edgesHeld}
-use Rattle.planner.specs.Lent.{Lent, plansHeld, holds}
+use Rattle.run.specs.FieldLaws.{front, read-all}
+use Rattle.run.specs.Lent.{Lent, plansHeld, holds}
 use Rattle.planner.specs.ReadBack.{planIn, entryIn, readBack}
-
--- a field's list has each entry's field at the entry's place
-pub front : {A B : Type 0} (f : A → B) (xs : List A) (l : List B) (d : A) (e : B) (i : ℕ) → i < length xs → getD (map f xs ++ l) i e ≡ f (getD xs i d)
-front f [] l d e i h = absurd (not-suc-le-zero h)
-front f (x ∷ xs) l d e zero h = refl
-front f (x ∷ xs) l d e (suc i) h = front f xs l d e i (le-of-suc-le-suc h)
-
--- entries that are read one by one
-pub read-all : {A : Type 0} (xs : List A) (d : A) (at : ℕ → A) → ((i : ℕ) → i < length xs → at i ≡ getD xs i d) → tabulate (length xs) at ≡ xs
-read-all xs d at same =
-    let n = length-tabulate (length xs) at in
-    ext-getD d (tabulate (length xs) at) xs n (λ i h. getD-tabulate (length xs) at i d (omega (arith, n)) ∙ same i (omega (arith, n)))
 
 -- an entry is its fields
 edge-is : (e : Edge) {a b c d f : ℕ} → a ≡ e .left → b ≡ e .right → c ≡ e .predicate → d ≡ e .source → f ≡ e .type

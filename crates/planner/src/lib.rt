@@ -1,73 +1,13 @@
 // The planner's call: a sheet's bytes, a visit limit and the lent lists to an answer. Every sheet, list length and limit gets one. The edge
 // lists are eleft to ekind, the plan lists pset to pcost, the memo lists mset and mplan.
-mod run;
-
-ghost use mathlib.Core.Path.{_≡_};
-ghost use Rattle.definition.specs.Call.{defaultLimit, call};
-ghost use Rattle.planner.specs.Answers.{reported, reportedOf};
-ghost use Rattle.planner.specs.Lent.{lent, roomsIn, holds};
-ghost use Rattle.planner.specs.Rules.{OpenList, KeptPlans, FiniteCosts};
+ghost use Rattle.definition.specs.Call.{defaultLimit};
+ghost use Rattle.answer.specs.Answers.{reportedOf};
+ghost use Rattle.run.specs.Lent.{lent};
+ghost use Rattle.planner.specs.Rules.{Planned};
+use answer::Answer;
+use answer::Outcome;
 use checks::Checked;
-use checks::Refusal;
 use checks::Rooms;
-use search::Ending;
-
-// How the search ended, how many entries were written, and the visits made.
-pub struct Outcome {
-    pub ending: Ending,
-    pub edges: u32,
-    pub plans: u32,
-    pub memo: u32,
-    pub visits: u32,
-}
-
-impl Outcome {
-    // The visit limit where none is stated.
-    pub const VISITS: u32 = 1000000;
-}
-
-// An answer in document 01's numbers.
-pub struct Report {
-    pub answer: u32,
-    pub edges: u32,
-    pub plans: u32,
-    pub memo: u32,
-    pub visits: u32,
-    pub chosen: u32,
-}
-
-pub enum Answer {
-    Refused(Refusal),
-    Ended(Outcome),
-}
-
-impl Answer {
-    pub fn report(self) -> Report
-        ensures { λ r. ⌜ r ≡ reportedOf self ⌝ }
-    {
-        match self {
-            Answer::Refused(f) => Report {
-                answer: f.number(),
-                edges: 0,
-                plans: 0,
-                memo: 0,
-                visits: 0,
-                chosen: Ending::NONE,
-            },
-            Answer::Ended(o) => {
-                let ending = o.ending;
-                Report {
-                    answer: ending.number(),
-                    edges: o.edges,
-                    plans: o.plans,
-                    memo: o.memo,
-                    visits: o.visits,
-                    chosen: ending.chosen(),
-                }
-            }
-        }
-    }
-}
 
 // Plans the joins of a sheet within limit visits.
 pub fn plan(
@@ -88,11 +28,7 @@ pub fn plan(
     mset: &mut [u64],
     mplan: &mut [u32],
 ) -> Answer
-    ensures answer { λ r. ⌜ reportedOf r ≡ reported (call (now (sheet .entry)) (roomsIn (lent (now (eleft .entry)) (now (eright .entry)) (now (epredicate .entry)) (now (esource .entry)) (now (ekind .entry)) (now (pset .entry)) (now (pleft .entry)) (now (pright .entry)) (now (plead .entry)) (now (pkind .entry)) (now (prows .entry)) (now (pcost .entry)) (now (mset .entry)) (now (mplan .entry)))) limit) ⌝ }
-    ensures lists { λ r. ⌜ lent (now (eleft .exit)) (now (eright .exit)) (now (epredicate .exit)) (now (esource .exit)) (now (ekind .exit)) (now (pset .exit)) (now (pleft .exit)) (now (pright .exit)) (now (plead .exit)) (now (pkind .exit)) (now (prows .exit)) (now (pcost .exit)) (now (mset .exit)) (now (mplan .exit)) ≡ holds (call (now (sheet .entry)) (roomsIn (lent (now (eleft .entry)) (now (eright .entry)) (now (epredicate .entry)) (now (esource .entry)) (now (ekind .entry)) (now (pset .entry)) (now (pleft .entry)) (now (pright .entry)) (now (plead .entry)) (now (pkind .entry)) (now (prows .entry)) (now (pcost .entry)) (now (mset .entry)) (now (mplan .entry)))) limit) (lent (now (eleft .entry)) (now (eright .entry)) (now (epredicate .entry)) (now (esource .entry)) (now (ekind .entry)) (now (pset .entry)) (now (pleft .entry)) (now (pright .entry)) (now (plead .entry)) (now (pkind .entry)) (now (prows .entry)) (now (pcost .entry)) (now (mset .entry)) (now (mplan .entry))) ⌝ }
-    ensures open { λ r. ⌜ OpenList (now (sheet .entry)) limit (lent (now (eleft .entry)) (now (eright .entry)) (now (epredicate .entry)) (now (esource .entry)) (now (ekind .entry)) (now (pset .entry)) (now (pleft .entry)) (now (pright .entry)) (now (plead .entry)) (now (pkind .entry)) (now (prows .entry)) (now (pcost .entry)) (now (mset .entry)) (now (mplan .entry))) (reportedOf r) (lent (now (eleft .exit)) (now (eright .exit)) (now (epredicate .exit)) (now (esource .exit)) (now (ekind .exit)) (now (pset .exit)) (now (pleft .exit)) (now (pright .exit)) (now (plead .exit)) (now (pkind .exit)) (now (prows .exit)) (now (pcost .exit)) (now (mset .exit)) (now (mplan .exit))) ⌝ }
-    ensures kept { λ r. ⌜ KeptPlans (now (sheet .entry)) limit (lent (now (eleft .entry)) (now (eright .entry)) (now (epredicate .entry)) (now (esource .entry)) (now (ekind .entry)) (now (pset .entry)) (now (pleft .entry)) (now (pright .entry)) (now (plead .entry)) (now (pkind .entry)) (now (prows .entry)) (now (pcost .entry)) (now (mset .entry)) (now (mplan .entry))) (reportedOf r) (lent (now (eleft .exit)) (now (eright .exit)) (now (epredicate .exit)) (now (esource .exit)) (now (ekind .exit)) (now (pset .exit)) (now (pleft .exit)) (now (pright .exit)) (now (plead .exit)) (now (pkind .exit)) (now (prows .exit)) (now (pcost .exit)) (now (mset .exit)) (now (mplan .exit))) ⌝ }
-    ensures finite { λ r. ⌜ FiniteCosts (now (sheet .entry)) (reportedOf r) (lent (now (eleft .exit)) (now (eright .exit)) (now (epredicate .exit)) (now (esource .exit)) (now (ekind .exit)) (now (pset .exit)) (now (pleft .exit)) (now (pright .exit)) (now (plead .exit)) (now (pkind .exit)) (now (prows .exit)) (now (pcost .exit)) (now (mset .exit)) (now (mplan .exit))) ⌝ }
+    ensures { λ r. ⌜ Planned (now (sheet .entry)) limit (lent (now (eleft .entry)) (now (eright .entry)) (now (epredicate .entry)) (now (esource .entry)) (now (ekind .entry)) (now (pset .entry)) (now (pleft .entry)) (now (pright .entry)) (now (plead .entry)) (now (pkind .entry)) (now (prows .entry)) (now (pcost .entry)) (now (mset .entry)) (now (mplan .entry))) (reportedOf r) (lent (now (eleft .exit)) (now (eright .exit)) (now (epredicate .exit)) (now (esource .exit)) (now (ekind .exit)) (now (pset .exit)) (now (pleft .exit)) (now (pright .exit)) (now (plead .exit)) (now (pkind .exit)) (now (prows .exit)) (now (pcost .exit)) (now (mset .exit)) (now (mplan .exit))) ⌝ }
 {
     let rooms = Rooms {
         edges: checks::edge_room(
@@ -156,11 +92,7 @@ pub fn plan_default(
     mset: &mut [u64],
     mplan: &mut [u32],
 ) -> Answer
-    ensures answer { λ r. ⌜ reportedOf r ≡ reported (call (now (sheet .entry)) (roomsIn (lent (now (eleft .entry)) (now (eright .entry)) (now (epredicate .entry)) (now (esource .entry)) (now (ekind .entry)) (now (pset .entry)) (now (pleft .entry)) (now (pright .entry)) (now (plead .entry)) (now (pkind .entry)) (now (prows .entry)) (now (pcost .entry)) (now (mset .entry)) (now (mplan .entry)))) defaultLimit) ⌝ }
-    ensures lists { λ r. ⌜ lent (now (eleft .exit)) (now (eright .exit)) (now (epredicate .exit)) (now (esource .exit)) (now (ekind .exit)) (now (pset .exit)) (now (pleft .exit)) (now (pright .exit)) (now (plead .exit)) (now (pkind .exit)) (now (prows .exit)) (now (pcost .exit)) (now (mset .exit)) (now (mplan .exit)) ≡ holds (call (now (sheet .entry)) (roomsIn (lent (now (eleft .entry)) (now (eright .entry)) (now (epredicate .entry)) (now (esource .entry)) (now (ekind .entry)) (now (pset .entry)) (now (pleft .entry)) (now (pright .entry)) (now (plead .entry)) (now (pkind .entry)) (now (prows .entry)) (now (pcost .entry)) (now (mset .entry)) (now (mplan .entry)))) defaultLimit) (lent (now (eleft .entry)) (now (eright .entry)) (now (epredicate .entry)) (now (esource .entry)) (now (ekind .entry)) (now (pset .entry)) (now (pleft .entry)) (now (pright .entry)) (now (plead .entry)) (now (pkind .entry)) (now (prows .entry)) (now (pcost .entry)) (now (mset .entry)) (now (mplan .entry))) ⌝ }
-    ensures open { λ r. ⌜ OpenList (now (sheet .entry)) defaultLimit (lent (now (eleft .entry)) (now (eright .entry)) (now (epredicate .entry)) (now (esource .entry)) (now (ekind .entry)) (now (pset .entry)) (now (pleft .entry)) (now (pright .entry)) (now (plead .entry)) (now (pkind .entry)) (now (prows .entry)) (now (pcost .entry)) (now (mset .entry)) (now (mplan .entry))) (reportedOf r) (lent (now (eleft .exit)) (now (eright .exit)) (now (epredicate .exit)) (now (esource .exit)) (now (ekind .exit)) (now (pset .exit)) (now (pleft .exit)) (now (pright .exit)) (now (plead .exit)) (now (pkind .exit)) (now (prows .exit)) (now (pcost .exit)) (now (mset .exit)) (now (mplan .exit))) ⌝ }
-    ensures kept { λ r. ⌜ KeptPlans (now (sheet .entry)) defaultLimit (lent (now (eleft .entry)) (now (eright .entry)) (now (epredicate .entry)) (now (esource .entry)) (now (ekind .entry)) (now (pset .entry)) (now (pleft .entry)) (now (pright .entry)) (now (plead .entry)) (now (pkind .entry)) (now (prows .entry)) (now (pcost .entry)) (now (mset .entry)) (now (mplan .entry))) (reportedOf r) (lent (now (eleft .exit)) (now (eright .exit)) (now (epredicate .exit)) (now (esource .exit)) (now (ekind .exit)) (now (pset .exit)) (now (pleft .exit)) (now (pright .exit)) (now (plead .exit)) (now (pkind .exit)) (now (prows .exit)) (now (pcost .exit)) (now (mset .exit)) (now (mplan .exit))) ⌝ }
-    ensures finite { λ r. ⌜ FiniteCosts (now (sheet .entry)) (reportedOf r) (lent (now (eleft .exit)) (now (eright .exit)) (now (epredicate .exit)) (now (esource .exit)) (now (ekind .exit)) (now (pset .exit)) (now (pleft .exit)) (now (pright .exit)) (now (plead .exit)) (now (pkind .exit)) (now (prows .exit)) (now (pcost .exit)) (now (mset .exit)) (now (mplan .exit))) ⌝ }
+    ensures { λ r. ⌜ Planned (now (sheet .entry)) defaultLimit (lent (now (eleft .entry)) (now (eright .entry)) (now (epredicate .entry)) (now (esource .entry)) (now (ekind .entry)) (now (pset .entry)) (now (pleft .entry)) (now (pright .entry)) (now (plead .entry)) (now (pkind .entry)) (now (prows .entry)) (now (pcost .entry)) (now (mset .entry)) (now (mplan .entry))) (reportedOf r) (lent (now (eleft .exit)) (now (eright .exit)) (now (epredicate .exit)) (now (esource .exit)) (now (ekind .exit)) (now (pset .exit)) (now (pleft .exit)) (now (pright .exit)) (now (plead .exit)) (now (pkind .exit)) (now (prows .exit)) (now (pcost .exit)) (now (mset .exit)) (now (mplan .exit))) ⌝ }
 {
     plan(
         sheet,

@@ -11,7 +11,7 @@ use Rattle.definition.specs.PlanRule.{pairsIn, CallPlanRule}
 use Rattle.definition.specs.OpenRule.{SameOpenBytes, SelectivitiesFit}
 use Rattle.definition.specs.TriedList.{triedList}
 use Rattle.listing.specs.Text.{pairsOf, sideSets}
-use Rattle.planner.specs.declared.Report.{Report}
+use Rattle.answer.specs.declared.Report.{Report}
 
 -- "256 edges, 1,088 plans, 512 memo places"
 abbrev pub listRooms : Rooms

@@ -20,9 +20,9 @@ use Rattle.definition.specs.TriedList.{triedList}
 use Rattle.listing.specs.Text.{pairsOf}
 use Rattle.listing.specs.TextLaws.{head-bound, lines-bound, text-length}
 use Rattle.listing.specs.ReadBack.{pairs-read}
-use Rattle.planner.specs.declared.Report.{Report}
-use Rattle.planner.specs.Answers.{reported}
-use Rattle.planner.specs.Lent.{Lent, lent, roomsIn, holds}
+use Rattle.answer.specs.declared.Report.{Report}
+use Rattle.answer.specs.Answers.{reported}
+use Rattle.run.specs.Lent.{Lent, lent, roomsIn, holds}
 use Rattle.checks.specs.RoomLaws.{not-refused}
 use Rattle.tried_text.specs.Printed.{listRooms, listCall, printed, longestText, OpenText, leavesPassed, noSets, sideOf, textFrom}
 

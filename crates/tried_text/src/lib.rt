@@ -4,8 +4,8 @@ ghost use Prim.Native.Nat.{_+_, _-_, _*_, _≤_};
 ghost use lib.ListN.{length};
 ghost use Rattle.listing.specs.Text.{answerFor, writtenIn};
 ghost use Rattle.tried_text.specs.Printed.{printed, longestText, OpenText, KeptBehind, leavesPassed, textFrom};
+use answer::Report;
 use listing::Written;
-use planner::Report;
 use sheet_check::SheetAnswer;
 
 // The number of leaves of a sheet that passes the check.

@@ -1,44 +1,53 @@
-use borrow.Author.Needs.{needs}
 use Rattle.planner.proofs.plan.Statement.{statement}
 use Rattle.planner.proofs.plan.Tie as tie
+use borrow.Author.Needs.{needs}
 use mathlib.Core.Path.{_≡_}
+use mathlib.Core.List.{List}
+use Prim.Native.Nat.{ℕ}
 use Rattle.definition.specs.Sheet.{Bytes}
-use Rattle.definition.specs.Call.{call}
-use Rattle.planner.specs.declared.Report.{Report}
-use Rattle.planner.specs.Answers.{reported}
-use Rattle.planner.specs.Lent.{Lent, lent, roomsIn, holds}
-use Rattle.planner.specs.Rules.{OpenList, KeptPlans, FiniteCosts}
-use Rattle.planner.specs.RuleLaws.{open-list, kept-plans, finite-costs}
-use Rattle.planner.specs.CallLaws.{call-accepted, refused-answer, refused-lists, accepted-answer, accepted-lists}
+use Rattle.definition.specs.Call.{Rooms}
+use Rattle.run.specs.Lent.{Lent, lent, roomsIn}
+use Rattle.planner.specs.CallLaws.{call-accepted, call-refuses, call-runs}
 use Rattle.checks.specs.RoomLaws.{rooms-eq}
 
-abbrev held : tie.Start → Lent
-held s = lent (s .args .eleft .now) (s .args .eright .now) (s .args .epredicate .now) (s .args .esource .now) (s .args .ekind .now) (s .args .pset .now) (s .args .pleft .now) (s .args .pright .now) (s .args .plead .now) (s .args .pkind .now) (s .args .prows .now) (s .args .pcost .now) (s .args .mset .now) (s .args .mplan .now)
+-- from where the checks have answered
+module _ (k : tie.After-check) where
+  abbrev first : tie.After-shared-slice-known
+  first = k .before .before .before .before .before .before .before .before .before .before .before .before .before .before .before .before .before .before
 
-bytes : (k : tie.After-shared-slice-known) → Bytes (k .before .args .sheet .now)
-bytes k i = k .shared-slice-known .given i .fits
+  abbrev start : tie.Start
+  start = first .before
 
-rules : (k : tie.After-shared-slice-known) (r : Report) (l : Lent)
-    → r ≡ reported (call (k .before .args .sheet .now) (roomsIn (held (k .before))) (k .before .args .limit))
-    → l ≡ holds (call (k .before .args .sheet .now) (roomsIn (held (k .before))) (k .before .args .limit)) (held (k .before))
-    → OpenList (k .before .args .sheet .now) (k .before .args .limit) (held (k .before)) r l
-    × KeptPlans (k .before .args .sheet .now) (k .before .args .limit) (held (k .before)) r l
-    × FiniteCosts (k .before .args .sheet .now) r l
-rules k r l answer lists =
-    let a = k .before .args in
-    (open-list (a .sheet .now) (bytes k) (a .limit) (held (k .before)) r l answer lists, kept-plans (a .sheet .now) (bytes k) (a .limit) (held (k .before)) r l answer lists, finite-costs (a .sheet .now) (bytes k) (a .limit) (held (k .before)) r l answer lists)
+  abbrev sheet : List ℕ
+  sheet = start .args .sheet .now
+
+  abbrev held : Lent
+  held = lent (start .args .eleft .now) (start .args .eright .now) (start .args .epredicate .now) (start .args .esource .now) (start .args .ekind .now) (start .args .pset .now) (start .args .pleft .now) (start .args .pright .now) (start .args .plead .now) (start .args .pkind .now) (start .args .prows .now) (start .args .pcost .now) (start .args .mset .now) (start .args .mplan .now)
+
+  bytes : Bytes sheet
+  bytes i = first .shared-slice-known .given i .fits
+
+  abbrev rooms : Rooms
+  rooms = record { edges = k .before .before .before .edge-room .result; plans = k .before .before .plan-room .result; memo = k .before .memo-room .result }
+
+  same : rooms ≡ roomsIn held
+  same = rooms-eq (k .before .before .before .edge-room .ensures) (k .before .before .plan-room .ensures) (k .before .memo-room .ensures)
+
+-- from the call's end, where `run` has returned
+abbrev ran : tie.After-slice-known28 → tie.After-run
+ran c = c .before .before .before .before .before .before .before .before .before .before .before .before .before .before .before .before .before .before .before .before .before .before .before .before .before .before .before .before
 
 edge-room-requires : tie.Need-edge-room-requires
-edge-room-requires c κs = search needs
+edge-room-requires c κs = tt
 
 plan-room-requires : tie.Need-plan-room-requires
-plan-room-requires c κs = search needs
+plan-room-requires c κs = tt
 
 memo-room-requires : tie.Need-memo-room-requires
-memo-room-requires c κs = search needs
+memo-room-requires c κs = tt
 
 check-requires : tie.Need-check-requires
-check-requires c κs = search needs
+check-requires c κs = tt
 
 enum-known-f : tie.Need-enum-known-f
 enum-known-f c = search needs
@@ -48,83 +57,67 @@ enum-known-q c = search needs
 
 run-requires : tie.Need-run-requires
 run-requires c κs =
-    let f = c .before .before .before .before .before .before .before .before .before .before .before .before .before .before .before .before .before .before .before .before .before .before .before .before .before .before .before .before .before .before .before .before .before .before .before .before in
-    let check = c .before .before .before .before .before .before .before .before .before .before .before .before .before .before .before .before .before .check in
+    let k = c .before .before .before .before .before .before .before .before .before .before .before .before .before .before .before .before .before in
     let is = c .before .before .before .before .before .before .before .before .before .before .before .before .before .before .before .q .given .1 in
-    let same = rooms-eq (c .before .before .before .before .before .before .before .before .before .before .before .before .before .before .before .before .before .before .before .before .edge-room .ensures) (c .before .before .before .before .before .before .before .before .before .before .before .before .before .before .before .before .before .before .before .plan-room .ensures) (c .before .before .before .before .before .before .before .before .before .before .before .before .before .before .before .before .before .before .memo-room .ensures) in
     record {
-      accepted = call-accepted (f .args .sheet .now) (f .args .limit) (check .result) (held f) _ same (check .ensures .0) is;
-      sections = check .ensures .1 _ is .0;
-      leaves = check .ensures .1 _ is .1;
-      rooms-are = same;
+      accepted = call-accepted (sheet k) (bytes k) (start k .args .limit) (k .check .result) (held k) (rooms k) (same k) (k .check .ensures .0) is;
+      sections = k .check .ensures .1 _ is .0;
+      leaves = k .check .ensures .1 _ is .1;
+      rooms-are = same k;
     }
 
 returns : tie.Need-returns
 returns c =
-    let k = c .before .before .before .before .before .before .before .before .before .before .before .before .before .before .before .before .before .before .before .before .before in
-    let f = k .before in
-    let check = c .before .before .before .check in
-    let is = c .before .f .given .1 in
-    let same = rooms-eq (c .before .before .before .before .before .before .edge-room .ensures) (c .before .before .before .before .before .plan-room .ensures) (c .before .before .before .before .memo-room .ensures) in
-    let answer = refused-answer (f .args .sheet .now) (f .args .limit) (check .result) (held f) _ same (check .ensures .0) is in
-    let lists = refused-lists (f .args .sheet .now) (f .args .limit) (check .result) (held f) _ same (check .ensures .0) is in
-    let ruled = rules k _ _ answer lists in
-    (answer, (lists, (ruled .0, (ruled .1, ruled .2))))
+    let k = c .before .before .before in
+    call-refuses (sheet k) (bytes k) (start k .args .limit) (k .check .result) (held k) (rooms k) (same k) (k .check .ensures .0) (c .before .f .given .1)
 
 same-length : tie.Need-same-length
-same-length c = c .before .before .before .before .before .before .before .before .before .before .before .before .before .before .before .before .before .before .before .before .before .before .before .before .before .before .before .before .run .kept .1 .1 .1 .1 .0
+same-length c = ran c .run .kept .1 .1 .1 .1 .0
 
 same-length-2 : tie.Need-same-length-2
-same-length-2 c = c .before .before .before .before .before .before .before .before .before .before .before .before .before .before .before .before .before .before .before .before .before .before .before .before .before .before .before .before .run .kept .1 .1 .1 .1 .1 .0
+same-length-2 c = ran c .run .kept .1 .1 .1 .1 .1 .0
 
 same-length-3 : tie.Need-same-length-3
-same-length-3 c = c .before .before .before .before .before .before .before .before .before .before .before .before .before .before .before .before .before .before .before .before .before .before .before .before .before .before .before .before .run .kept .1 .1 .1 .1 .1 .1 .0
+same-length-3 c = ran c .run .kept .1 .1 .1 .1 .1 .1 .0
 
 same-length-4 : tie.Need-same-length-4
-same-length-4 c = c .before .before .before .before .before .before .before .before .before .before .before .before .before .before .before .before .before .before .before .before .before .before .before .before .before .before .before .before .run .kept .1 .1 .1 .1 .1 .1 .1 .0
+same-length-4 c = ran c .run .kept .1 .1 .1 .1 .1 .1 .1 .0
 
 same-length-5 : tie.Need-same-length-5
-same-length-5 c = c .before .before .before .before .before .before .before .before .before .before .before .before .before .before .before .before .before .before .before .before .before .before .before .before .before .before .before .before .run .kept .1 .1 .1 .1 .1 .1 .1 .1 .0
+same-length-5 c = ran c .run .kept .1 .1 .1 .1 .1 .1 .1 .1 .0
 
 same-length-6 : tie.Need-same-length-6
-same-length-6 c = c .before .before .before .before .before .before .before .before .before .before .before .before .before .before .before .before .before .before .before .before .before .before .before .before .before .before .before .before .run .kept .1 .1 .1 .1 .1 .1 .1 .1 .1 .0
+same-length-6 c = ran c .run .kept .1 .1 .1 .1 .1 .1 .1 .1 .1 .0
 
 same-length-7 : tie.Need-same-length-7
-same-length-7 c = c .before .before .before .before .before .before .before .before .before .before .before .before .before .before .before .before .before .before .before .before .before .before .before .before .before .before .before .before .run .kept .1 .1 .1 .1 .1 .1 .1 .1 .1 .1 .0
+same-length-7 c = ran c .run .kept .1 .1 .1 .1 .1 .1 .1 .1 .1 .1 .0
 
 same-length-8 : tie.Need-same-length-8
-same-length-8 c = c .before .before .before .before .before .before .before .before .before .before .before .before .before .before .before .before .before .before .before .before .before .before .before .before .before .before .before .before .run .kept .1 .1 .1 .1 .1 .1 .1 .1 .1 .1 .1 .0
+same-length-8 c = ran c .run .kept .1 .1 .1 .1 .1 .1 .1 .1 .1 .1 .1 .0
 
 same-length-9 : tie.Need-same-length-9
-same-length-9 c = c .before .before .before .before .before .before .before .before .before .before .before .before .before .before .before .before .before .before .before .before .before .before .before .before .before .before .before .before .run .kept .1 .1 .1 .1 .1 .1 .1 .1 .1 .1 .1 .1 .0
+same-length-9 c = ran c .run .kept .1 .1 .1 .1 .1 .1 .1 .1 .1 .1 .1 .1 .0
 
 same-length-10 : tie.Need-same-length-10
-same-length-10 c = c .before .before .before .before .before .before .before .before .before .before .before .before .before .before .before .before .before .before .before .before .before .before .before .before .before .before .before .before .run .kept .1 .1 .1 .1 .1 .1 .1 .1 .1 .1 .1 .1 .1 .0
+same-length-10 c = ran c .run .kept .1 .1 .1 .1 .1 .1 .1 .1 .1 .1 .1 .1 .1 .0
 
 same-length-11 : tie.Need-same-length-11
-same-length-11 c = search needs
+same-length-11 c = ran c .run .kept .1 .1 .1 .1 .1 .1 .1 .1 .1 .1 .1 .1 .1 .1 .0
 
 same-length-12 : tie.Need-same-length-12
-same-length-12 c = search needs
+same-length-12 c = ran c .run .kept .1 .1 .1 .1 .1 .1 .1 .1 .1 .1 .1 .1 .1 .1 .1 .0
 
 same-length-13 : tie.Need-same-length-13
-same-length-13 c = search needs
+same-length-13 c = ran c .run .kept .1 .1 .1 .1 .1 .1 .1 .1 .1 .1 .1 .1 .1 .1 .1 .1 .0
 
 same-length-14 : tie.Need-same-length-14
-same-length-14 c = search needs
+same-length-14 c = ran c .run .kept .1 .1 .1 .1 .1 .1 .1 .1 .1 .1 .1 .1 .1 .1 .1 .1 .1 .0
 
 returns-2 : tie.Need-returns-2
 returns-2 c =
-    let k = c .before .before .before .before .before .before .before .before .before .before .before .before .before .before .before .before .before .before .before .before .before .before .before .before .before .before .before .before .before .before .before .before .before .before .before .before .before .before .before .before .before .before .before .before .before .before .before .before .before .before .before .before .before .before .before .before .before .before .before .before .before .before .before .before in
-    let f = k .before in
-    let check = c .before .before .before .before .before .before .before .before .before .before .before .before .before .before .before .before .before .before .before .before .before .before .before .before .before .before .before .before .before .before .before .before .before .before .before .before .before .before .before .before .before .before .before .before .before .before .check in
-    let is = c .before .before .before .before .before .before .before .before .before .before .before .before .before .before .before .before .before .before .before .before .before .before .before .before .before .before .before .before .before .before .before .before .before .before .before .before .before .before .before .before .before .before .before .before .q .given .1 in
-    let same = rooms-eq (c .before .before .before .before .before .before .before .before .before .before .before .before .before .before .before .before .before .before .before .before .before .before .before .before .before .before .before .before .before .before .before .before .before .before .before .before .before .before .before .before .before .before .before .before .before .before .before .before .before .edge-room .ensures) (c .before .before .before .before .before .before .before .before .before .before .before .before .before .before .before .before .before .before .before .before .before .before .before .before .before .before .before .before .before .before .before .before .before .before .before .before .before .before .before .before .before .before .before .before .before .before .before .before .plan-room .ensures) (c .before .before .before .before .before .before .before .before .before .before .before .before .before .before .before .before .before .before .before .before .before .before .before .before .before .before .before .before .before .before .before .before .before .before .before .before .before .before .before .before .before .before .before .before .before .before .before .memo-room .ensures) in
-    let r = c .before .before .before .before .before .before .before .before .before .before .before .before .before .before .before .before .before .before .before .before .before .before .before .before .before .before .before .before .run .ensures in
-    let answer = accepted-answer (f .args .sheet .now) (f .args .limit) (check .result) (held f) _ same (check .ensures .0) is (r .0) in
-    let lists = accepted-lists (f .args .sheet .now) (f .args .limit) (check .result) (held f) _ same (check .ensures .0) is (r .1) in
-    let ruled = rules k _ _ answer lists in
-    (answer, (lists, (ruled .0, (ruled .1, ruled .2))))
+    let k = ran c .before .before .before .before .before .before .before .before .before .before .before .before .before .before .before .before .before .before in
+    call-runs (sheet k) (bytes k) (start k .args .limit) (k .check .result) (held k) (rooms k) (same k) (k .check .ensures .0) (ran c .before .before .before .before .before .before .before .before .before .before .before .before .before .before .before .before .q .given .1) _ _
+    (ran c .run .ensures .0) (ran c .run .ensures .1)
 
 pub plan-spec : {M : Type 1} → statement M
 plan-spec =

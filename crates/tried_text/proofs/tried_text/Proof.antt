@@ -86,13 +86,13 @@ returns c =
     let plan = c .before .before .before .before .before .before .before .before .before .before .before .before .before .before .before .before .before .before .before .before .before .before .before .plan-default in
     let text = c .before .before .listed .ensures in
     let size = plan .kept .1 .1 .1 .1 .1 .1 .0 ∙ length-replicate {A = ℕ} 1088 0 in
-    let answer = c .before .before .before .before .before .before .before .before .report .ensures ∙ plan .ensures .0 in
+    let answer = c .before .before .before .before .before .before .before .before .report .ensures ∙ plan .ensures .answer in
     let leaves = c .before .before .before .before .before .before .before .leaves .ensures in
-    let same = text-is (a .sheet .now) bytes _ _ answer (plan .ensures .1 .0) size leaves in (
+    let same = text-is (a .sheet .now) bytes _ _ answer (plan .ensures .lists) size leaves in (
       text .0 ∙ ap (λ (t : List ℕ). answerFor t (a .out .now)) same,
       (
         text .1 .0 ∙ ap (λ (t : List ℕ). writtenIn t (a .out .now)) same,
-        (text-fits (a .sheet .now) bytes _ _ answer (plan .ensures .1 .0) size leaves (text .1 .1), (open-text (a .sheet .now) bytes, plan-rule (a .sheet .now) bytes listRooms defaultLimit)),
+        (text-fits (a .sheet .now) bytes _ _ answer (plan .ensures .lists) size leaves (text .1 .1), (open-text (a .sheet .now) bytes, plan-rule (a .sheet .now) bytes listRooms defaultLimit)),
       ),
     )
 

@@ -30,11 +30,11 @@ use Rattle.held.specs.Held.{inputFor, holding, Roomy}
 use Rattle.search.specs.View.{Ready, Ends, endingNumber, chosenOf}
 use Rattle.search.specs.declared.Searched.{Searched}
 use Rattle.checks.specs.declared.Question.{Question}
-use Rattle.planner.specs.declared.Outcome.{Outcome}
-use Rattle.planner.specs.Answers.{reported, endedAs}
-use Rattle.builder.specs.Builds.{EdgeLists, edgeLists, edgesHeld, Longer}
-use Rattle.planner.specs.Lent.{Lent, roomsIn, holds, givenFor, Runs}
-use Rattle.planner.specs.ReadBackLaws.{front, read-all}
+use Rattle.answer.specs.declared.Outcome.{Outcome}
+use Rattle.answer.specs.Answers.{reported, endedAs}
+use Rattle.builder.specs.Builds.{EdgeLists, edgesHeld, Longer}
+use Rattle.run.specs.Lent.{Lent, roomsIn, holds, givenFor, Runs}
+use Rattle.run.specs.FieldLaws.{front, read-all}
 use Rattle.checks.specs.RoomLaws.{store-first, store-rest, Room, not-refused}
 
 -- ---- a store is no longer than each of its lists

@@ -1,5 +1,5 @@
 // What is done for an accepted sheet: its edges are built, its leaves and tables read, and the search is run.
-use crate::Outcome;
+use answer::Outcome;
 use checks::Question;
 use checks::Rooms;
 use search::Searched;
@@ -12,8 +12,8 @@ ghost use Rattle.candidate.specs.Store.{lists, store};
 ghost use Rattle.held.specs.Held.{inputFor, holding};
 ghost use Rattle.search.specs.View.{Ready, Ends};
 ghost use Rattle.checks.specs.Answers.{roomsOf};
-ghost use Rattle.planner.specs.Answers.{reported, endedAs};
-ghost use Rattle.planner.specs.Lent.{lent, holds, givenFor, Runs};
+ghost use Rattle.answer.specs.Answers.{reported, endedAs};
+ghost use Rattle.run.specs.Lent.{lent, holds, givenFor, Runs};
 
 // The search over the first n edges, the sheet's leaves and its tables.
 fn search_plans(

@@ -4,10 +4,10 @@ use Rattle.definition.specs.Hypergraph.{none32}
 use Rattle.definition.specs.Call as call
 use Rattle.checks.specs.Answers.{refusalNumber}
 use Rattle.search.specs.View.{endingNumber, chosenOf}
-use Rattle.planner.specs.declared.Outcome.{Outcome}
-use Rattle.planner.specs.declared.Answer.{Answer}
-use Rattle.planner.specs.declared.Answer.the-variants as answer
-use Rattle.planner.specs.declared.Report.{Report}
+use Rattle.answer.specs.declared.Outcome.{Outcome}
+use Rattle.answer.specs.declared.Answer.{Answer}
+use Rattle.answer.specs.declared.Answer.the-variants as answer
+use Rattle.answer.specs.declared.Report.{Report}
 
 -- what an outcome reports: "Beside its number an answer has counts of edges, plans and memo entries written, looks, and the chosen plan's
 -- number"

@@ -1,7 +1,7 @@
 -- The lent lists, their lengths as stores, and what a call leaves in them. Definitions only.
 use mathlib.Core.Path.{_≡_}
 use mathlib.Core.List.{List, [], _∷_, map}
-use Prim.Native.Nat.{ℕ, _≤_}
+use Prim.Native.Nat.{ℕ}
 use lib.ListN.{length}
 use lib.Ieee.{Float}
 use Rattle.definition.specs.Lists.{column}

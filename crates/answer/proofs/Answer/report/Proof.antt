@@ -1,6 +1,6 @@
 use borrow.Author.Needs.{needs}
-use Rattle.planner.proofs.Answer.report.Statement.{statement}
-use Rattle.planner.proofs.Answer.report.Tie as tie
+use Rattle.answer.proofs.Answer.report.Statement.{statement}
+use Rattle.answer.proofs.Answer.report.Tie as tie
 use mathlib.Core.Path.{refl}
 
 enum-known-self : tie.Need-enum-known-self

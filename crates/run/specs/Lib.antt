@@ -1,0 +1,5 @@
+-- Definitions.
+pub mod Lent
+-- Laws.
+pub mod FieldLaws
+pub mod RunLaws
