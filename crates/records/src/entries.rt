@@ -1,6 +1,8 @@
 // The entries of a call: edges, plans and memo entries, each kind in lists of its own. A record has n entries of it from `at` on.
 use crate::lists;
+ghost use mathlib.Core.Path.{_≡_};
 ghost use Prim.Native.Nat.{_≤_};
+ghost use Rattle.records.specs.Entries.{edgesListed, plansListed, memoListed};
 
 pub fn same_edges(
     bytes: &[u8],
@@ -13,6 +15,7 @@ pub fn same_edges(
     ekind: &[u32],
 ) -> bool
     requires { ⌜ (at ≤ 60000) × (n ≤ 4096) ⌝ }
+    ensures { λ r. ⌜ r ≡ edgesListed (now (bytes .entry)) at n (now (eleft .entry)) (now (eright .entry)) (now (epredicate .entry)) (now (esource .entry)) (now (ekind .entry)) ⌝ }
 {
     if !lists::same_longs(eleft, bytes, at, 28, n) {
         return false;
@@ -42,6 +45,7 @@ pub fn same_plans(
     pcost: &[f64],
 ) -> bool
     requires { ⌜ (at ≤ 60000) × (n ≤ 4096) ⌝ }
+    ensures { λ r. ⌜ r ≡ plansListed (now (bytes .entry)) at n (now (pset .entry)) (now (pleft .entry)) (now (pright .entry)) (now (plead .entry)) (now (pkind .entry)) (now (prows .entry)) (now (pcost .entry)) ⌝ }
 {
     if !lists::same_longs(pset, bytes, at, 40, n) {
         return false;
@@ -66,6 +70,7 @@ pub fn same_plans(
 
 pub fn same_memo(bytes: &[u8], at: usize, n: usize, mset: &[u64], mplan: &[u32]) -> bool
     requires { ⌜ (at ≤ 60000) × (n ≤ 4096) ⌝ }
+    ensures { λ r. ⌜ r ≡ memoListed (now (bytes .entry)) at n (now (mset .entry)) (now (mplan .entry)) ⌝ }
 {
     if !lists::same_longs(mset, bytes, at, 12, n) {
         return false;
