@@ -89,10 +89,7 @@ pub fn next_record(buf: &mut [u8]) -> usize
         return 0;
     }
     let got = io::read_full(STDIN_FILENO, &mut buf[0..n]);
-    if got < n {
-        return 0;
-    }
-    n
+    if got < n { 0 } else { n }
 }
 
 // The sheet of a record, which comes without its first word; no bytes where it has no whole sheet.
