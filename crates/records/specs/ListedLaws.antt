@@ -37,17 +37,13 @@ module _ {A : Type 0} (is : ℕ → A → Bool) (at step n : ℕ) (xs : List A) 
         sym (ap (λ (k : ℕ). begins is here step k (drop i xs)) none) ∙ b
 
     module _ (d : A) (h : i < n) (l : i < length xs) where
-      turn : begins is here step (n - i) (drop i xs) ≡ is here (getD xs i d) && begins is (here + step) step (n - (i + 1)) (drop (i + 1) xs)
+      -- the value there is tested, and then the others decide
+      pub begun-turn : (t : Bool) → is here (getD xs i d) ≡ t → t && begins is (here + step) step (n - (i + 1)) (drop (i + 1) xs) ≡ begins is at step n xs
       unfolding begins
-      turn =
+      begun-turn t e =
           let left : n - i ≡ suc (n - (i + 1)) = omega arith in
-          rw (left, drop-cons xs i d, add-one)
-
-      pub begun-stop : is here (getD xs i d) ≡ false → false ≡ begins is at step n xs
-      begun-stop e = sym (turn ∙ ap (λ (t : Bool). t && begins is (here + step) step (n - (i + 1)) (drop (i + 1) xs)) e) ∙ b
-
-      pub begun-next : is here (getD xs i d) ≡ true → Begun (here + step) (i + 1)
-      begun-next e = sym (turn ∙ ap (λ (t : Bool). t && begins is (here + step) step (n - (i + 1)) (drop (i + 1) xs)) e) ∙ b
+          let turn : begins is here step (n - i) (drop i xs) ≡ is here (getD xs i d) && begins is (here + step) step (n - (i + 1)) (drop (i + 1) xs) = rw (left, drop-cons xs i d, add-one) in
+          ap (λ (u : Bool). u && begins is (here + step) step (n - (i + 1)) (drop (i + 1) xs)) (sym e) ∙ sym turn ∙ b
 
 -- ---- the pattern behind them
 
@@ -62,15 +58,11 @@ module _ {A : Type 0} (p : A → Bool) (n : ℕ) (xs : List A) where
     passed-end h = sym (ap (every p) (drop-of-length-le xs h)) ∙ b
 
     module _ (d : A) (l : i < length xs) where
-      turned : every p (drop i xs) ≡ p (getD xs i d) && every p (drop (i + 1) xs)
+      pub passed-turn : (t : Bool) → p (getD xs i d) ≡ t → t && every p (drop (i + 1) xs) ≡ every p (drop n xs)
       unfolding every
-      turned = rw (drop-cons xs i d, add-one)
-
-      pub passed-stop : p (getD xs i d) ≡ false → false ≡ every p (drop n xs)
-      passed-stop e = sym (turned ∙ ap (λ (t : Bool). t && every p (drop (i + 1) xs)) e) ∙ b
-
-      pub passed-next : p (getD xs i d) ≡ true → Passed (i + 1)
-      passed-next e = sym (turned ∙ ap (λ (t : Bool). t && every p (drop (i + 1) xs)) e) ∙ b
+      passed-turn t e =
+          let turn : every p (drop i xs) ≡ p (getD xs i d) && every p (drop (i + 1) xs) = rw (drop-cons xs i d, add-one) in
+          ap (λ (u : Bool). u && every p (drop (i + 1) xs)) (sym e) ∙ sym turn ∙ b
 
 -- ---- tests one after the other, left at the first that fails
 

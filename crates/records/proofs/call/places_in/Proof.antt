@@ -3,7 +3,6 @@ use Rattle.records.proofs.call.places_in.Statement.{statement}
 use Rattle.records.proofs.call.places_in.Tie as tie
 use Prim.Native.Nat.{ℕ, min}
 use mathlib.Core.Path.{_≡_, ap, _∙_}
-use native.Mathlib.Omega.{arith}
 use Rattle.records.specs.Records.{wordAt}
 
 word-requires : tie.Need-word-requires

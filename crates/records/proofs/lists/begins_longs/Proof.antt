@@ -2,11 +2,12 @@ use Rattle.records.proofs.lists.begins_longs.Statement.{statement}
 use Rattle.records.proofs.lists.begins_longs.Tie as tie
 use borrow.Author.Needs.{needs}
 use borrow.Author.Tests.{eq-eqb, ne-eqb}
+use mathlib.Core.Bool.{true, false}
 use mathlib.Core.Path.{sym, _∙_}
 use native.Mathlib.Omega.{arith}
 use Prim.Native.Nat.{_+_, _*_, _-_, _≤_}
 use Rattle.records.specs.Listed.{isLong}
-use Rattle.records.specs.ListedLaws.{Begun, begins-short, begun, begun-stop, begun-next, begun-end}
+use Rattle.records.specs.ListedLaws.{Begun, begins-short, begun, begun-turn, begun-end}
 
 abbrev Inv-loop : tie.InvT-loop
 Inv-loop list bytes at step n here₀ i₀ here i =
@@ -38,7 +39,7 @@ returns-2 : tie.Need-returns-2 Inv-loop μ-loop
 returns-2 c =
     let a = c .before .before .before .before .before .before .before .before .args in
     let w = c .before .before .before .before .loop in
-    begun-stop (isLong (a .bytes .now)) (a .at) (a .step) (a .n) (a .list .now) (w .here) (w .i) (w .inv .2) 0 (omega arith) (omega arith) (ne-eqb _ _ (λ e. c .if2 .taken (e ∙ sym (c .before .long .ensures))))
+    begun-turn (isLong (a .bytes .now)) (a .at) (a .step) (a .n) (a .list .now) (w .here) (w .i) (w .inv .2) 0 (omega arith) (omega arith) false (ne-eqb _ _ (λ e. c .if2 .taken (e ∙ sym (c .before .long .ensures))))
 
 add-here : tie.Need-add-here Inv-loop μ-loop
 add-here c = search needs
@@ -53,7 +54,7 @@ loop-again : tie.Need-loop-again Inv-loop μ-loop
 loop-again c =
     let a = c .before .before .before .before .before .before .before .before .args in
     let w = c .before .before .before .before .loop in
-    (omega arith, omega arith, begun-next (isLong (a .bytes .now)) (a .at) (a .step) (a .n) (a .list .now) (w .here) (w .i) (w .inv .2) 0 (omega arith) (omega arith) (eq-eqb _ _ (c .if2 .left ∙ c .before .long .ensures)))
+    (omega arith, omega arith, begun-turn (isLong (a .bytes .now)) (a .at) (a .step) (a .n) (a .list .now) (w .here) (w .i) (w .inv .2) 0 (omega arith) (omega arith) true (eq-eqb _ _ (c .if2 .left ∙ c .before .long .ensures)))
 
 returns-3 : tie.Need-returns-3 Inv-loop μ-loop
 returns-3 c =

@@ -4,7 +4,7 @@ use Rattle.records.proofs.lists.bits.Statement.{statement}
 use Rattle.records.proofs.lists.bits.Tie as tie
 use mathlib.Core.Bool.{true, false, not, false≢true}
 use mathlib.Core.Path.{_≡_, refl, sym, _∙_}
-use lib.Dec.{T, eqb}
+use lib.Dec.{T}
 use borrow.Author.Tests.{eq-eqb}
 use lib.Ieee.{Float, nan, inf, fin, up, down, binary64, eq, isNan, toBits}
 

@@ -2,13 +2,14 @@ use Rattle.records.proofs.lists.rest_numbers.Statement.{statement}
 use Rattle.records.proofs.lists.rest_numbers.Tie as tie
 use borrow.Author.Needs.{needs}
 use borrow.Author.Tests.{eq-eqb, ne-eqb}
+use mathlib.Core.Bool.{true, false}
 use mathlib.Core.Path.{_≡_, refl, sym, _∙_}
 use lib.Ieee.{binary64, ofBits, toBits}
 use native.Mathlib.Omega.{arith}
 use Prim.Native.Nat.{_-_}
 use lib.ListN.{length}
 use Rattle.records.specs.Listed.{blankNumber}
-use Rattle.records.specs.ListedLaws.{Passed, passed-stop, passed-next, passed-end}
+use Rattle.records.specs.ListedLaws.{Passed, passed-turn, passed-end}
 
 -- the pattern's bits
 pattern : toBits binary64 (ofBits binary64 0xbff8_0000_0000_0000) ≡ 0xbff8_0000_0000_0000
@@ -40,7 +41,7 @@ returns : tie.Need-returns Inv-loop μ-loop
 returns c =
     let a = c .before .before .before .before .before .before .before .args in
     let w = c .before .before .before .before .before .loop in
-    passed-stop blankNumber (a .n) (a .list .now) (w .i) (w .inv) _ (omega arith) (ne-eqb _ _ (λ e. c .if1 .taken (c .before .before .bits .ensures ∙ e ∙ sym (c .before .bits2 .ensures ∙ pattern))))
+    passed-turn blankNumber (a .n) (a .list .now) (w .i) (w .inv) _ (omega arith) false (ne-eqb _ _ (λ e. c .if1 .taken (c .before .before .bits .ensures ∙ e ∙ sym (c .before .bits2 .ensures ∙ pattern))))
 
 add-i : tie.Need-add-i Inv-loop μ-loop
 add-i c = search needs
@@ -52,7 +53,7 @@ loop-again : tie.Need-loop-again Inv-loop μ-loop
 loop-again c =
     let a = c .before .before .before .before .before .before .before .args in
     let w = c .before .before .before .before .before .loop in
-    passed-next blankNumber (a .n) (a .list .now) (w .i) (w .inv) _ (omega arith) (eq-eqb _ _ (sym (c .before .before .bits .ensures) ∙ c .if1 .left ∙ c .before .bits2 .ensures ∙ pattern))
+    passed-turn blankNumber (a .n) (a .list .now) (w .i) (w .inv) _ (omega arith) true (eq-eqb _ _ (sym (c .before .before .bits .ensures) ∙ c .if1 .left ∙ c .before .bits2 .ensures ∙ pattern))
 
 returns-2 : tie.Need-returns-2 Inv-loop μ-loop
 returns-2 c =

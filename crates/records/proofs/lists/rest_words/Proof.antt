@@ -2,12 +2,13 @@ use Rattle.records.proofs.lists.rest_words.Statement.{statement}
 use Rattle.records.proofs.lists.rest_words.Tie as tie
 use borrow.Author.Needs.{needs}
 use borrow.Author.Tests.{eq-eqb, ne-eqb}
+use mathlib.Core.Bool.{true, false}
 use mathlib.Core.Path.{refl}
 use native.Mathlib.Omega.{arith}
 use Prim.Native.Nat.{_-_}
 use lib.ListN.{length}
 use Rattle.records.specs.Listed.{blankWord}
-use Rattle.records.specs.ListedLaws.{Passed, passed-stop, passed-next, passed-end}
+use Rattle.records.specs.ListedLaws.{Passed, passed-turn, passed-end}
 
 abbrev Inv-loop : tie.InvT-loop
 Inv-loop list n i₀ i = Passed blankWord n list i
@@ -28,7 +29,7 @@ returns : tie.Need-returns Inv-loop μ-loop
 returns c =
     let a = c .before .before .before .before .args in
     let w = c .before .before .before .loop in
-    passed-stop blankWord (a .n) (a .list .now) (w .i) (w .inv) 0 (omega arith) (ne-eqb _ _ (c .if1 .taken))
+    passed-turn blankWord (a .n) (a .list .now) (w .i) (w .inv) 0 (omega arith) false (ne-eqb _ _ (c .if1 .taken))
 
 add-i : tie.Need-add-i Inv-loop μ-loop
 add-i c = search needs
@@ -40,7 +41,7 @@ loop-again : tie.Need-loop-again Inv-loop μ-loop
 loop-again c =
     let a = c .before .before .before .before .args in
     let w = c .before .before .before .loop in
-    passed-next blankWord (a .n) (a .list .now) (w .i) (w .inv) 0 (omega arith) (eq-eqb _ _ (c .if1 .left))
+    passed-turn blankWord (a .n) (a .list .now) (w .i) (w .inv) 0 (omega arith) true (eq-eqb _ _ (c .if1 .left))
 
 returns-2 : tie.Need-returns-2 Inv-loop μ-loop
 returns-2 c =
