@@ -1,10 +1,6 @@
 // Replays recorded calls from standard input (crate records). For each record the 14 lists are filled with a pattern and lent in the recorded
 // lengths; then the answer, the counts, every entry, and the pattern behind the entries are compared. The crate's stdin is the oracle's
 // calls.bin.
-mod entries;
-mod lists;
-mod record;
-
 use answer::Answer;
 use answer::Report;
 use libc::STDOUT_FILENO;
@@ -46,18 +42,18 @@ fn call_with_edges(
     mplan: &mut [u32],
 ) -> Answer {
     let words = records::after_sheet(record);
-    let a = record::list_length(words, 5, pset.len());
-    let b = record::list_length(words, 6, pleft.len());
-    let c = record::list_length(words, 7, pright.len());
-    let d = record::list_length(words, 8, plead.len());
-    let e = record::list_length(words, 9, pkind.len());
-    let f = record::list_length(words, 10, prows.len());
-    let g = record::list_length(words, 11, pcost.len());
-    let h = record::list_length(words, 12, mset.len());
-    let i = record::list_length(words, 13, mplan.len());
+    let a = records::list_length(words, 5, pset.len());
+    let b = records::list_length(words, 6, pleft.len());
+    let c = records::list_length(words, 7, pright.len());
+    let d = records::list_length(words, 8, plead.len());
+    let e = records::list_length(words, 9, pkind.len());
+    let f = records::list_length(words, 10, prows.len());
+    let g = records::list_length(words, 11, pcost.len());
+    let h = records::list_length(words, 12, mset.len());
+    let i = records::list_length(words, 13, mplan.len());
     planner::plan(
         records::sheet_of(record),
-        record::limit(words),
+        records::limit(words),
         eleft,
         eright,
         epredicate,
@@ -94,11 +90,11 @@ fn call(
     mplan: &mut [u32],
 ) -> Answer {
     let words = records::after_sheet(record);
-    let a = record::list_length(words, 0, eleft.len());
-    let b = record::list_length(words, 1, eright.len());
-    let c = record::list_length(words, 2, epredicate.len());
-    let d = record::list_length(words, 3, esource.len());
-    let e = record::list_length(words, 4, ekind.len());
+    let a = records::list_length(words, 0, eleft.len());
+    let b = records::list_length(words, 1, eright.len());
+    let c = records::list_length(words, 2, epredicate.len());
+    let d = records::list_length(words, 3, esource.len());
+    let e = records::list_length(words, 4, ekind.len());
     call_with_edges(
         record,
         &mut eleft[0..a],
@@ -116,6 +112,26 @@ fn call(
         mset,
         mplan,
     )
+}
+
+// Whether the record has this report.
+fn has_report(words: &[u8], r: Report) -> bool {
+    if records::word(words, 60) != r.answer {
+        return false;
+    }
+    if records::word(words, 64) != r.edges {
+        return false;
+    }
+    if records::word(words, 68) != r.plans {
+        return false;
+    }
+    if records::word(words, 72) != r.memo {
+        return false;
+    }
+    if records::word(words, 76) != r.visits {
+        return false;
+    }
+    records::word(words, 80) == r.chosen
 }
 
 // Whether the report and the lists are what the record has.
@@ -137,14 +153,14 @@ fn agrees(
     mset: &[u64],
     mplan: &[u32],
 ) -> bool {
-    let p = record::places_in(words);
+    let p = records::places_in(words);
     if words.len() != p.end {
         return false;
     }
-    if !record::has_report(words, r) {
+    if !has_report(words, r) {
         return false;
     }
-    if !entries::same_edges(
+    if !records::same_edges(
         words,
         p.edges_at,
         p.edges,
@@ -156,7 +172,7 @@ fn agrees(
     ) {
         return false;
     }
-    if !entries::same_plans(
+    if !records::same_plans(
         words,
         p.plans_at,
         p.plans,
@@ -170,7 +186,7 @@ fn agrees(
     ) {
         return false;
     }
-    entries::same_memo(words, p.memo_at, p.memo, mset, mplan)
+    records::same_memo(words, p.memo_at, p.memo, mset, mplan)
 }
 
 // Whether the recorded call over these lists replies and leaves what the record has.
@@ -230,20 +246,20 @@ fn compared(
 
 // Over lists that hold nothing but the pattern.
 fn replayed(record: &[u8]) -> bool {
-    let mut eleft = [lists::LONG; 256];
-    let mut eright = [lists::LONG; 256];
-    let mut epredicate = [lists::WORD; 256];
-    let mut esource = [lists::WORD; 256];
-    let mut ekind = [lists::WORD; 256];
-    let mut pset = [lists::LONG; 1088];
-    let mut pleft = [lists::WORD; 1088];
-    let mut pright = [lists::WORD; 1088];
-    let mut plead = [lists::WORD; 1088];
-    let mut pkind = [lists::WORD; 1088];
-    let mut prows = [lists::NUMBER; 1088];
-    let mut pcost = [lists::NUMBER; 1088];
-    let mut mset = [lists::LONG; 512];
-    let mut mplan = [lists::WORD; 512];
+    let mut eleft = [records::LONG; 256];
+    let mut eright = [records::LONG; 256];
+    let mut epredicate = [records::WORD; 256];
+    let mut esource = [records::WORD; 256];
+    let mut ekind = [records::WORD; 256];
+    let mut pset = [records::LONG; 1088];
+    let mut pleft = [records::WORD; 1088];
+    let mut pright = [records::WORD; 1088];
+    let mut plead = [records::WORD; 1088];
+    let mut pkind = [records::WORD; 1088];
+    let mut prows = [records::NUMBER; 1088];
+    let mut pcost = [records::NUMBER; 1088];
+    let mut mset = [records::LONG; 512];
+    let mut mplan = [records::WORD; 512];
     compared(
         record,
         &mut eleft,
@@ -267,7 +283,7 @@ fn replayed(record: &[u8]) -> bool {
 fn tally_of(record: &[u8]) -> Tally
     ensures { λ r. ⌜ (r .records ≡ 1) × (r .edges ≤ 256) × (r .plans ≤ 1088) × (r .memo ≤ 512) × (r .agree ≤ 1) ⌝ }
 {
-    let p = record::places_in(records::after_sheet(record));
+    let p = records::places_in(records::after_sheet(record));
     Tally {
         records: 1,
         edges: p.edges as u32,

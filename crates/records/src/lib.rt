@@ -1,19 +1,29 @@
 // Stored records on standard input: a line of text, then records. A record begins with its whole length in bytes, a sheet's length and the
 // sheet, filled up to whole words. Numbers are little-endian; a word has 4 bytes, a long 8. The oracle writes them (oracle/README.md).
+mod call;
+mod entries;
+mod lists;
+
+pub use call::Places;
+pub use call::limit;
+pub use call::list_length;
+pub use call::places_in;
+pub use entries::same_edges;
+pub use entries::same_memo;
+pub use entries::same_plans;
 use libc::STDIN_FILENO;
 use libc::STDOUT_FILENO;
+pub use lists::LONG;
+pub use lists::NUMBER;
+pub use lists::WORD;
 ghost use mathlib.Core.Path.{_≡_};
-ghost use Prim.Native.Nat.{_<_};
 ghost use Rattle.io.specs.Counts.{Counts};
-
-fn wide(b: u8) -> u32
-    ensures { λ r. ⌜ r < 256 ⌝ }
-{
-    b as u32
-}
+ghost use Rattle.records.specs.Records.{wordAt, longAt, sheetOf, afterSheet};
 
 // The word there, and 0 past the end.
-pub fn word(bytes: &[u8], at: usize) -> u32 {
+pub fn word(bytes: &[u8], at: usize) -> u32
+    ensures { λ r. ⌜ r ≡ wordAt (now (bytes .entry)) at ⌝ }
+{
     let n = bytes.len();
     if n < 4 {
         return 0;
@@ -21,14 +31,13 @@ pub fn word(bytes: &[u8], at: usize) -> u32 {
     if n - 4 < at {
         return 0;
     }
-    wide(bytes[at])
-        + 256 * wide(bytes[at + 1])
-        + 65536 * wide(bytes[at + 2])
-        + 16777216 * wide(bytes[at + 3])
+    sheet::word(bytes, at)
 }
 
 // The long there, and 0 past the end.
-pub fn long(bytes: &[u8], at: usize) -> u64 {
+pub fn long(bytes: &[u8], at: usize) -> u64
+    ensures { λ r. ⌜ r ≡ longAt (now (bytes .entry)) at ⌝ }
+{
     let n = bytes.len();
     if n < 8 {
         return 0;
@@ -36,7 +45,9 @@ pub fn long(bytes: &[u8], at: usize) -> u64 {
     if n - 8 < at {
         return 0;
     }
-    word(bytes, at) as u64 + 4294967296 * word(bytes, at + 4) as u64
+    let low = sheet::word(bytes, at);
+    let high = sheet::word(bytes, at + 4);
+    low as u64 + 4294967296 * high as u64
 }
 
 // Reads one byte, and answers whether the line goes on.
@@ -78,34 +89,35 @@ pub fn next_record(buf: &mut [u8]) -> usize
         return 0;
     }
     let got = io::read_full(STDIN_FILENO, &mut buf[0..n]);
-    if got < n {
-        return 0;
-    }
-    n
+    if got < n { 0 } else { n }
 }
 
 // The sheet of a record, which comes without its first word; no bytes where it has no whole sheet.
-pub fn sheet_of(record: &[u8]) -> &[u8] {
-    let n = record.len();
+pub fn sheet_of(bytes: &[u8]) -> &[u8]
+    ensures { λ r. ⌜ now r ≡ sheetOf (now (bytes .entry)) ⌝ }
+{
+    let n = bytes.len();
     if n < 4 {
-        return &record[0..0];
+        return &bytes[0..0];
     }
-    let size = word(record, 0) as usize;
+    let size = word(bytes, 0) as usize;
     if n - 4 < size {
-        return &record[0..0];
+        return &bytes[0..0];
     }
     let end = 4 + size;
-    &record[4..end]
+    &bytes[4..end]
 }
 
 // What follows the sheet of a record and its filling.
-pub fn after_sheet(record: &[u8]) -> &[u8] {
-    let n = record.len();
-    let at = 4 + (word(record, 0) as usize + 3) / 4 * 4;
+pub fn after_sheet(bytes: &[u8]) -> &[u8]
+    ensures { λ r. ⌜ now r ≡ afterSheet (now (bytes .entry)) ⌝ }
+{
+    let n = bytes.len();
+    let at = 4 + (word(bytes, 0) as usize + 3) / 4 * 4;
     if n < at {
-        return &record[n..n];
+        return &bytes[n..n];
     }
-    &record[at..n]
+    &bytes[at..n]
 }
 
 pub fn print_number(before: &[u8], n: u64) {

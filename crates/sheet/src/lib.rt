@@ -10,6 +10,7 @@ pub use read::leaf_count;
 pub use read::predicate_range;
 pub use read::predicate_selectivity;
 pub use read::sections_of;
+pub use read::word;
 
 // Where a table starts, in bytes, and how many entries it has.
 pub struct Section {

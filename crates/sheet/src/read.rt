@@ -17,7 +17,7 @@ fn wide(x: u8) -> u32
 }
 
 // The word whose four bytes start at `at`, the lowest first.
-fn word(sheet: &[u8], at: usize) -> u32
+pub fn word(sheet: &[u8], at: usize) -> u32
     requires { ⌜ at + 4 ≤ length (now sheet) ⌝ }
     ensures { λ r. ⌜ r ≡ word (now (sheet .entry)) at ⌝ }
 {
