@@ -7,7 +7,7 @@ use lib.Dec.{eqb, ltb}
 use lib.Bits.{bitAnd}
 use lib.Count.{leadingZeros, trailingZeros}
 
--- 1 where leaf i is in s, and 0 otherwise
+-- bit i of s: 1 where leaf i is in s, and 0 otherwise
 unfoldable pub bit : ℕ → ℕ → ℕ
 bit s i = s / 2 ^ i % 2
 
