@@ -52,6 +52,19 @@ pub fn overlapping(leaves: u32) -> Sheet {
     sheet
 }
 
+/// 0 Inner (1 joined with 2 in this kind), the Inner predicate on 0 and 2. The
+/// trial of {0,2} and {1} lies against its lead edge: 32 and 8 rows, of whose
+/// pairs 16 are left.
+pub fn against_lead(kind: u32) -> Sheet {
+    let mut sheet = Sheet::default();
+    for (leaf, rows) in (0..).zip([4, 8, 16]) {
+        sheet.add_leaf(rows, &[leaf]);
+    }
+    sheet.add_join(kind, &[(4096, [1, 2])]);
+    sheet.add_join(INNER, &[(32_768, [0, 2])]);
+    sheet
+}
+
 /// Two leaves and an Inner join of `edges` predicates; then, with `third`, a
 /// third leaf and a join of that kind over the first predicate.
 fn many_edges(edges: u32, third: Option<u32>) -> Sheet {

@@ -1,9 +1,10 @@
-//! The mill's cost model as optd's `CostModel`: document 01's rows and cost.
+//! The mill's cost model as optd's `CostModel`: document 01's rows and cost, with
+//! request 2026-01's rows for each join type.
 
 use optd_core::analysis::{AnalysisContext, Costed};
 use optd_core::cost::CostModel;
 use optd_core::optimize::{OptimizeError, OptimizeResult};
-use optd_core::{Expr, ExprData, NaryOp, Operator, OperatorData, QueryContext, visits};
+use optd_core::{Expr, ExprData, JoinType, NaryOp, Operator, OperatorData, QueryContext, visits};
 
 use crate::sheet::{FULL_SELECTIVITY, MAX_ROWS, Sheet};
 
@@ -33,16 +34,31 @@ impl MillModel {
     fn candidate_cost(
         &self,
         candidate: Operator,
+        join_type: &JoinType,
         [outer, inner]: [Operator; 2],
         predicates: &[Expr],
         analyses: &mut AnalysisContext,
     ) -> f64 {
-        let pairs = analyses.rows[&outer] * analyses.rows[&inner];
-        let kept =
+        let [left, right] = [outer, inner].map(|input| analyses.rows[&input]);
+        let pairs = left * right;
+        let filtered =
             predicates.iter().fold(pairs, |rows, predicate| rows * self.selectivity(*predicate));
-        let rows = if kept > MAX_ROWS { MAX_ROWS } else { kept };
+        let rows = rows_by_type(join_type, filtered, left, right).min(MAX_ROWS);
         analyses.rows.insert(candidate, rows);
         pairs + rows
+    }
+}
+
+/// Request 2026-01: rows of a join, from what its predicates leave of the row
+/// pairs and from the rows of its two inputs.
+fn rows_by_type(join_type: &JoinType, filtered: f64, left: f64, right: f64) -> f64 {
+    match join_type {
+        JoinType::Inner => filtered,
+        JoinType::LeftSemi | JoinType::LeftAnti => filtered.min(left),
+        JoinType::LeftOuter => filtered.max(left),
+        JoinType::RightOuter => filtered.max(right),
+        JoinType::FullOuter => filtered.max(left).max(right),
+        JoinType::Single | JoinType::LeftMark { .. } => left,
     }
 }
 
@@ -83,10 +99,12 @@ impl CostModel for MillModel {
             }
             OperatorData::Join(join) => {
                 let predicates = conjuncts(join.on, ctx);
-                Ok(self.candidate_cost(op, [join.outer, join.inner], &predicates, analyses))
+                let inputs = [join.outer, join.inner];
+                Ok(self.candidate_cost(op, &join.join_type, inputs, &predicates, analyses))
             }
             OperatorData::CrossProduct(product) => {
-                Ok(self.candidate_cost(op, [product.outer, product.inner], &[], analyses))
+                let inputs = [product.outer, product.inner];
+                Ok(self.candidate_cost(op, &JoinType::Inner, inputs, &[], analyses))
             }
             _ => Err(OptimizeError::PassError {
                 pass: "MillModel",

@@ -6,7 +6,7 @@ use crate::outcome::Lists;
 use crate::published;
 use crate::random::Random;
 use crate::random_sheets::random_sheet;
-use crate::reference::search::connects;
+use crate::reference::search::{connects, has_inner_rows};
 use crate::reference::sets::{lowest, subsets, within};
 use crate::sheet::{CROSS_PRODUCT, INNER, NONE, Sheet};
 use crate::walks::{Small, each_small_sheet};
@@ -88,6 +88,10 @@ fn connecting_edges_of_several_kinds(sheet: &Sheet, lists: &Lists) -> bool {
     })
 }
 
+fn rows_not_inner(sheet: &Sheet, lists: &Lists) -> bool {
+    lists.candidates().iter().any(|plan| !has_inner_rows(sheet, lists, plan))
+}
+
 /// A plan that a trial was costed on is no longer the kept one at the end.
 fn child_replaced_later(_: &Sheet, lists: &Lists) -> bool {
     let kept: HashSet<u32> = lists.memo.iter().map(|entry| entry.plan).collect();
@@ -138,6 +142,7 @@ pub fn print_survey() {
         Trait::new("the chosen plan leaves an edge out", chosen_plan_leaves_an_edge_out),
         Trait::new("a lead edge is turned", lead_edge_turned),
         Trait::new("connecting edges of several kinds", connecting_edges_of_several_kinds),
+        Trait::new("a trial's rows are not an Inner join's", rows_not_inner),
         Trait::new("a trial's child is replaced later", child_replaced_later),
         Trait::new("other pairs than all splits", other_pairs_than_all_splits),
         Trait::new("no plan though each join has an edge", no_plan_though_each_join_has_an_edge),

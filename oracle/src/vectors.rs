@@ -4,18 +4,19 @@ use std::fs;
 use std::io;
 use std::path::Path;
 
-use crate::boundary::{boundary_sheets, overlapping, star};
+use crate::boundary::{against_lead, boundary_sheets, overlapping, star};
 use crate::cases::{Case, ample, cases};
 use crate::compare::{WIDE, follows};
 use crate::damage::damaged;
-use crate::outcome::{Outcome, answer};
+use crate::outcome::{Lists, Outcome, answer};
 use crate::published;
 use crate::random::Random;
 use crate::random_sheets::random_sheet;
 use crate::reference::call;
 use crate::reference::check::check;
+use crate::reference::search::has_inner_rows;
 use crate::samples::samples;
-use crate::sheet::{INNER, Sheet};
+use crate::sheet::{CROSS_PRODUCT, INNER, Sheet};
 use crate::walks::{Small, each_small_sheet};
 
 const CALLS_SEED: u64 = 20_261_016;
@@ -94,6 +95,8 @@ struct Calls {
     unequal: usize,
     /// Calls that were held to the Rust.
     held: usize,
+    /// Candidates by kind: all, and those whose rows are not an Inner join's.
+    kinds: [(usize, usize); CROSS_PRODUCT as usize + 1],
 }
 
 impl Calls {
@@ -105,7 +108,19 @@ impl Calls {
         self.unequal += usize::from(case.is_unequal());
         self.answers[outcome.answer as usize] += 1;
         self.with_candidates += usize::from(!outcome.lists.candidates().is_empty());
+        self.count_kinds(sheet, &outcome.lists);
         self.records.push(call_record(sheet, case, &outcome));
+    }
+
+    fn count_kinds(&mut self, bytes: &[u8], lists: &Lists) {
+        let Ok(sheet) = check(bytes) else {
+            return;
+        };
+        for plan in lists.candidates() {
+            let (all, not_inner) = &mut self.kinds[plan.kind as usize];
+            *all += 1;
+            *not_inner += usize::from(!has_inner_rows(&sheet, lists, plan));
+        }
     }
 
     /// Holds a call to the Rust, if the Rust can end on its sheet.
@@ -167,9 +182,16 @@ fn calls() -> Calls {
     for sheet in random_sheets(WIDE_SHEETS, 12, &mut random) {
         calls.add(&sheet.bytes(), &ample());
     }
+    for kind in 1..=7 {
+        calls.add(&against_lead(kind).bytes(), &ample());
+    }
     calls.add(&overlapping(9).bytes(), &ample());
     calls.add(&star(30, INNER).bytes(), &Case { limit: 500, ..ample() });
     assert!(calls.answers.iter().all(|count| *count > 0), "all answers occur");
+    assert!(
+        calls.kinds[1..=7].iter().all(|(_, not_inner)| *not_inner > 0),
+        "each kind's rule shows"
+    );
     calls
 }
 
@@ -221,6 +243,7 @@ fn write_calls(folder: &Path, seed: u64, calls: &Calls) -> io::Result<()> {
         "  {} with trials, {} with unequal lists, {} held to the Rust, by answer {:?}",
         calls.with_candidates, calls.unequal, calls.held, calls.answers
     );
+    println!("  trials by kind, and with rows that are not an Inner join's: {:?}", calls.kinds);
     Ok(())
 }
 

@@ -3,7 +3,7 @@ ghost use mathlib.Core.Path.{_≡_};
 ghost use mathlib.Core.Bool.{_&&_};
 ghost use lib.ListN.{getD};
 ghost use Rattle.nodeset.specs.Sets.{within};
-ghost use Rattle.definition.specs.Cost.{whole, leafEstimate, product, candidateRows, candidateFrom, cheaper};
+ghost use Rattle.definition.specs.Cost.{whole, leafEstimate, product, lesser, greater, capped, rowsByKind, candidateRows, candidateFrom, cheaper};
 ghost use Rattle.definition.specs.EdgeView.{Held};
 ghost use Rattle.definition.specs.EdgeWalkLaws.{rowsAfter, withEdge};
 ghost use Rattle.cost.specs.View.{estimateOf, connectionOf, Connects, Connected};
@@ -50,14 +50,42 @@ pub fn product(left: Estimate, right: Estimate) -> f64
     left.rows * right.rows
 }
 
+fn lesser(x: f64, y: f64) -> f64
+    ensures { λ r. ⌜ r ≡ lesser x y ⌝ }
+{
+    if x < y { x } else { y }
+}
+
+fn greater(x: f64, y: f64) -> f64
+    ensures { λ r. ⌜ r ≡ greater x y ⌝ }
+{
+    if x < y { y } else { x }
+}
+
+fn capped(x: f64) -> f64
+    ensures { λ r. ⌜ r ≡ capped x ⌝ }
+{
+    if x > CEILING { CEILING } else { x }
+}
+
+// filtered: the estimate after the selectivities; left, right: the rows of the candidate's own two plans.
+fn rows_by_kind(kind: u32, filtered: f64, left: f64, right: f64) -> f64
+    ensures { λ r. ⌜ r ≡ rowsByKind kind filtered left right ⌝ }
+{
+    match kind {
+        1 | 2 => lesser(filtered, left),
+        3 => greater(filtered, left),
+        4 => greater(filtered, right),
+        5 => greater(filtered, greater(left, right)),
+        6 | 7 => left,
+        _ => filtered,
+    }
+}
+
 fn candidate_rows(kind: u32, left: Estimate, right: Estimate, filtered: f64) -> f64
     ensures { λ r. ⌜ r ≡ candidateRows kind (estimateOf left) (estimateOf right) filtered ⌝ }
 {
-    if filtered > CEILING {
-        CEILING
-    } else {
-        filtered
-    }
+    capped(rows_by_kind(kind, filtered, left.rows, right.rows))
 }
 
 // filtered: what `connect` leaves of the product.

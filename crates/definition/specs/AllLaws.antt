@@ -1,6 +1,6 @@
 -- Lists all of whose members have a property. Assumes nothing.
 use mathlib.Core.List.{List, [], _∷_, _++_, map}
-use Prim.Native.Nat.{ℕ, suc, _<_, zero-le, suc-le-suc}
+use Prim.Native.Nat.{ℕ, zero, suc, _<_, zero-le, suc-le-suc}
 use lib.ListN.{length, getD}
 use Rattle.nodeset.specs.SubsetLaws.{All}
 use Rattle.definition.specs.Lists.{concatMap}
@@ -25,6 +25,12 @@ all-concat P f h (x ∷ xs) = all-both P (f x) (concatMap f xs) (h x) (all-conca
 pub all-of : {A : Type 0} (P : A → Type 0) (d : A) (xs : List A) → ((i : ℕ) → i < length xs → P (getD xs i d)) → All P xs
 all-of P d [] f = tt
 all-of P d (x ∷ xs) f = (f 0 (suc-le-suc zero-le), all-of P d xs (λ i h. f (suc i) (suc-le-suc h)))
+
+-- a member, or what stands for one past the end
+pub all-get : {A : Type 0} (P : A → Type 0) (d : A) (xs : List A) (i : ℕ) → All P xs → P d → P (getD xs i d)
+all-get P d [] i a p = p
+all-get P d (x ∷ xs) zero a p = a .0
+all-get P d (x ∷ xs) (suc i) a p = all-get P d xs i (a .1) p
 
 pub all-mapped : {A B : Type 0} (P : B → Type 0) (f : A → B) (xs : List A) → All (λ x. P (f x)) xs → All P (map f xs)
 all-mapped P f [] a = tt

@@ -1,15 +1,18 @@
--- A visit and a candidate at the limits, by computation: three leaves in a row.
+-- A visit and a candidate at the limits, by computation: three leaves in a row. Then a candidate's rows, whichever way its lead edge lies: two
+-- leaves.
 use mathlib.Core.Path.{_≡_, refl}
+use mathlib.Core.Bool.{false}
 use mathlib.Core.List.{List, [], _∷_, _++_, map}
 use Prim.Native.Nat.{ℕ}
 use lib.ListN.{length}
-use lib.Ieee.{mul, add, div, lt, ofInt}
+use lib.IntN.{pos}
+use lib.Ieee.{Float, fin, mul, add, div, lt, ofInt}
 use Rattle.nodeset.specs.Sets.{singleton}
 use Rattle.definition.specs.Question.{leaf, inner}
 use Rattle.definition.specs.Hypergraph.{connectingFrom, anyPredicate, selectivitiesOf}
 use Rattle.definition.specs.Cost.{filtered, candidateFrom}
 use Rattle.definition.specs.Walk.{each}
-use Rattle.definition.specs.Search.{Entry, Leaf, Input, Pair, find, replace, visit, candidateKind, candidate, memoAfter, joined, attempt, leafPlans, leafEntries, start}
+use Rattle.definition.specs.Search.{Entry, Leaf, Input, Pair, State, planAt, find, replace, visit, candidateKind, candidate, memoAfter, joined, attempt, leafPlans, leafEntries, start}
 
 abbrev scan : ℕ → Leaf
 scan rows = record { rows = rows; columns = 1 }
@@ -27,10 +30,15 @@ chain rows ss planRoom memoRoom limit =
       limit = limit;
     }
 
+-- after these pairs
+unfoldable pub tried : Input → List Pair → State
+unfolding singleton connectingFrom anyPredicate selectivitiesOf filtered candidateFrom find replace candidateKind candidate memoAfter joined attempt leafPlans leafEntries start mul add div lt ofInt
+tried i ts = each (λ t u. attempt i (t .left) (t .right) u) ts (start i)
+
 -- after these pairs: answer, number of plans, memo
 unfoldable pub after : Input → List Pair → ℕ × ℕ × List Entry
-unfolding singleton connectingFrom anyPredicate selectivitiesOf filtered candidateFrom find replace candidateKind candidate memoAfter joined attempt leafPlans leafEntries start mul add div lt ofInt
-after i ts = let st = each (λ t u. attempt i (t .left) (t .right) u) ts (start i) in (st .stop, length (st .plans), st .memo)
+unfolding tried
+after i ts = let st = tried i ts in (st .stop, length (st .plans), st .memo)
 
 abbrev entry : ℕ → ℕ → Entry
 entry s p = record { set = s; plan = p }
@@ -67,6 +75,34 @@ pub replaced : (after (even 7 6) left-last ≡ (0, 7, leaves ++ (entry 6 3 ∷ e
     × (after uneven right-last ≡ (0, 7, leaves ++ (entry 6 3 ∷ entry 3 4 ∷ entry 7 6 ∷ [])))
 unfolding after
 replaced = (refl, refl, refl)
+
+-- two leaves of 4 and 16 rows, of whose row pairs one is kept; an edge with these sides, and its source's kind
+abbrev oneEdge : ℕ → ℕ → ℕ → Input
+oneEdge left right kind =
+    record {
+      leaves = map scan (4 ∷ 16 ∷ []);
+      edges = record { left = left; right = right; predicate = 0; source = 2; type = 0 } ∷ [];
+      kinds = leaf ∷ leaf ∷ kind ∷ [];
+      selectivities = 1024 ∷ [];
+      planRoom = 3;
+      memoRoom = 3;
+      limit = 9;
+    }
+
+-- the rows of the candidate of leaf 0 and leaf 1, by the source's kinds 0 to 8
+unfoldable pub madeRows : ℕ → ℕ → List Float
+unfolding tried
+madeRows left right =
+    map (λ (kind : ℕ). planAt (tried (oneEdge left right kind) (pair 1 2 ∷ [])) 2 .estimate .rows) (0 ∷ 1 ∷ 2 ∷ 3 ∷ 4 ∷ 5 ∷ 6 ∷ 7 ∷ 8 ∷ [])
+
+-- 1, 4 or 16 rows
+abbrev expected : List Float
+expected = map (λ (n : ℕ). fin false 1 (pos n)) (0 ∷ 0 ∷ 0 ∷ 2 ∷ 4 ∷ 4 ∷ 2 ∷ 2 ∷ 0 ∷ [])
+
+-- an edge that lies the other way round changes nothing: left and right rows are the candidate's own
+pub either-way : (madeRows 1 2 ≡ expected) × (madeRows 2 1 ≡ expected)
+unfolding madeRows
+either-way = (refl, refl)
 
 -- after a visit that comes behind v others: answer, visits
 unfoldable pub visited : ℕ → ℕ → ℕ × ℕ

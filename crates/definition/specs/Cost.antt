@@ -1,7 +1,8 @@
--- Document 01, 'Plans and memo': "Rows and cost are f64, each operation rounded once."
+-- Document 01, 'Plans and memo': "Rows and cost are f64, each operation rounded once." With request 2026-01: rows by kind.
 use Prim.Native.Nat.{ℕ, max}
 use mathlib.Core.Bool.{Bool, true, false}
 use mathlib.Core.List.{List, [], _∷_}
+use lib.ListN.{getD}
 use lib.IntN.{pos}
 use lib.Ieee.{Float, fin, binary64, mul, add, div, lt, ofInt}
 
@@ -43,18 +44,55 @@ filtered x (s ∷ ss) = filtered (mul binary64 x (fraction s)) ss
 abbrev pub capped : Float → Float
 capped x = elim (lt ceiling x) [ true ↦ ceiling | false ↦ x ]
 
--- the rows of a candidate (document 01: trial) of this kind, from what is left after the selectivities: "Trial, every kind"
+-- "the lesser of" two numbers, and "the greater"
+abbrev pub lesser : Float → Float → Float
+lesser x y = elim (lt x y) [ true ↦ x | false ↦ y ]
+
+abbrev pub greater : Float → Float → Float
+greater x y = elim (lt x y) [ true ↦ y | false ↦ x ]
+
+-- rows from e, "the estimate after shares", and from "left rows" and "right rows"
+abbrev pub RowRule : Type 0
+RowRule = Float → Float → Float → Float
+
+-- "Inner and cross products are as before"
+abbrev pub innerRows : RowRule
+innerRows e l r = e
+
+-- request 2026-01: the rule of each kind, from 0 on
+abbrev pub rowRules : List RowRule
+rowRules =
+    innerRows
+    -- "kinds 1 and 2 give the lesser of e and left rows"
+    ∷ (λ e l r. lesser e l) ∷ (λ e l r. lesser e l)
+    -- "3 the greater of e and left rows"
+    ∷ (λ e l r. greater e l)
+    -- "4 the greater of e and right rows"
+    ∷ (λ e l r. greater e r)
+    -- "5 the greater of e and the greater of both"
+    ∷ (λ e l r. greater e (greater l r))
+    -- "6 and 7 give left rows"
+    ∷ (λ e l r. l) ∷ (λ e l r. l)
+    -- 8, a cross product
+    ∷ innerRows
+    ∷ []
+
+-- no candidate's kind is above 8
+abbrev pub rowsByKind : ℕ → RowRule
+rowsByKind kind = getD rowRules kind innerRows
+
+-- the rows of a candidate (document 01: trial) of this kind: "the 2^500 ceiling comes last"
 abbrev pub candidateRows : ℕ → Estimate → Estimate → Float → Float
-candidateRows kind l r x = capped x
+candidateRows kind l r e = capped (rowsByKind kind e (l .rows) (r .rows))
 
 -- "Cost: p plus rows, plus left cost, plus right cost, in that order."
 abbrev pub candidateCost : Estimate → Estimate → Float → Float
 candidateCost l r rows = add binary64 (add binary64 (add binary64 (product l r) rows) (l .cost)) (r .cost)
 
--- rows and cost of a candidate of this kind, from what is left after the selectivities
+-- rows and cost of a candidate of this kind, from e
 unfoldable pub candidateFrom : ℕ → Estimate → Estimate → Float → Estimate
-candidateFrom kind l r x =
-    let rows = candidateRows kind l r x in
+candidateFrom kind l r e =
+    let rows = candidateRows kind l r e in
     record { rows = rows; cost = candidateCost l r rows }
 
 abbrev pub candidateEstimate : ℕ → Estimate → Estimate → List ℕ → Estimate

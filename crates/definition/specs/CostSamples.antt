@@ -1,5 +1,5 @@
--- Document 01, 'Sample sheets': the candidates' costs, by computation. Then numbers at which another order of operations, another ceiling
--- or another reading of the edges would show.
+-- Document 01, 'Sample sheets': the candidates' costs, by computation. Then numbers at which another order of operations, another ceiling,
+-- another rule for a kind's rows or another reading of the edges would show.
 use mathlib.Core.Path.{_≡_, refl}
 use mathlib.Core.Bool.{true, false}
 use mathlib.Core.List.{List, [], _∷_, map}
@@ -10,7 +10,7 @@ use lib.Dec.{leb}
 use lib.IntN.{pos, negsuc}
 use lib.Ieee.{Float, fin, mul, add, div, lt, ofInt}
 use Rattle.definition.specs.Hypergraph.{Edge, none32, connectingFrom, anyPredicate, selectivitiesOf}
-use Rattle.definition.specs.Cost.{Estimate, whole, filtered, capped, candidateCost, candidateFrom}
+use Rattle.definition.specs.Cost.{Estimate, whole, filtered, capped, candidateRows, candidateCost, candidateFrom}
 use Rattle.definition.specs.Connection.{connection}
 use Rattle.definition.specs.EstimateOrderLaws.{kept}
 use Rattle.definition.specs.EstimateBounds.{JoinTree, scan, join, treeEstimate}
@@ -67,6 +67,49 @@ pub at-ceiling : (capped (fin false 9007199254740991 (pos 447)) ≡ fin false 90
     × (capped (fin false 4503599627370497 (pos 448)) ≡ fin false 1 (pos 500))
 unfolding lt
 at-ceiling = (refl, refl)
+
+-- ---- rows by kind
+
+abbrev kinds : List ℕ
+kinds = 0 ∷ 1 ∷ 2 ∷ 3 ∷ 4 ∷ 5 ∷ 6 ∷ 7 ∷ 8 ∷ []
+
+-- a candidate of each kind, over two leaves of one column with these rows, and this selectivity; of kind 8 too, which has none
+abbrev eachKind : ℕ → ℕ → ℕ → List JoinTree
+eachKind left right s = map (λ (kind : ℕ). join kind (scan left 1) (scan right 1) (s ∷ [])) kinds
+
+abbrev rows : List JoinTree → List Float
+rows = map (λ (t : JoinTree). treeEstimate t .rows)
+
+-- 2 ^ n
+abbrev power : ℕ → Float
+power n = fin false 1 (pos n)
+
+-- e is 1, less than the rows of both sides, 4 and 16; 8, between them; 64, greater than both; then the same with the greater side on the left
+pub by-kind : (rows (eachKind 4 16 1024) ≡ map power (0 ∷ 0 ∷ 0 ∷ 2 ∷ 4 ∷ 4 ∷ 2 ∷ 2 ∷ 0 ∷ []))
+    × (rows (eachKind 4 16 8192) ≡ map power (3 ∷ 2 ∷ 2 ∷ 3 ∷ 4 ∷ 4 ∷ 2 ∷ 2 ∷ 3 ∷ []))
+    × (rows (eachKind 4 16 65536) ≡ map power (6 ∷ 2 ∷ 2 ∷ 6 ∷ 6 ∷ 6 ∷ 2 ∷ 2 ∷ 6 ∷ []))
+    × (rows (eachKind 16 4 1024) ≡ map power (0 ∷ 0 ∷ 0 ∷ 4 ∷ 2 ∷ 4 ∷ 4 ∷ 4 ∷ 0 ∷ []))
+    × (rows (eachKind 16 4 8192) ≡ map power (3 ∷ 3 ∷ 3 ∷ 4 ∷ 3 ∷ 4 ∷ 4 ∷ 4 ∷ 3 ∷ []))
+    × (rows (eachKind 16 4 65536) ≡ map power (6 ∷ 4 ∷ 4 ∷ 6 ∷ 6 ∷ 6 ∷ 4 ∷ 4 ∷ 6 ∷ []))
+unfolding treeEstimate filtered candidateFrom mul div ofInt lt add
+by-kind = (refl, refl, refl, refl, refl, refl)
+
+-- 64 row pairs, the rows, and the costs 4 and 16 of the two leaves
+pub cost-by-kind : costs (eachKind 4 16 1024) ≡ map whole (85 ∷ 85 ∷ 85 ∷ 88 ∷ 100 ∷ 100 ∷ 88 ∷ 88 ∷ 85 ∷ [])
+unfolding treeEstimate filtered candidateFrom mul div ofInt lt add
+cost-by-kind = refl
+
+-- rows of each kind from powers of two: e, the left rows and the right rows
+abbrev rowsFrom : ℕ → ℕ → ℕ → List Float
+rowsFrom e left right =
+    map (λ (kind : ℕ). candidateRows kind (record { rows = power left; cost = power 0 }) (record { rows = power right; cost = power 0 }) (power e)) kinds
+
+-- e, the left rows or the right rows above the ceiling, which comes after the greater
+pub ceiling-last : (rowsFrom 501 0 0 ≡ map power (500 ∷ 0 ∷ 0 ∷ 500 ∷ 500 ∷ 500 ∷ 0 ∷ 0 ∷ 500 ∷ []))
+    × (rowsFrom 0 501 0 ≡ map power (0 ∷ 0 ∷ 0 ∷ 500 ∷ 0 ∷ 500 ∷ 500 ∷ 500 ∷ 0 ∷ []))
+    × (rowsFrom 0 0 501 ≡ map power (0 ∷ 0 ∷ 0 ∷ 0 ∷ 500 ∷ 500 ∷ 0 ∷ 0 ∷ 0 ∷ []))
+unfolding lt
+ceiling-last = (refl, refl, refl)
 
 -- an edge between leaves 0 and 1, with this predicate
 abbrev edge : ℕ → Edge

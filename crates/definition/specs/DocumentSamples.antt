@@ -134,6 +134,10 @@ sideApart = 5 ∷ 24 ∷ 2 ∷ 104 ∷ 6 ∷ 128 ∷ 9 ∷ 64 ∷ 0 ∷ 1 ∷ 9 
 abbrev crossLead : List ℕ
 crossLead = 5 ∷ 24 ∷ 2 ∷ 104 ∷ 6 ∷ 128 ∷ 9 ∷ 256 ∷ 0 ∷ 1 ∷ 9 ∷ 64 ∷ 1 ∷ 1 ∷ 8 ∷ 0 ∷ 0 ∷ 0 ∷ 9 ∷ 16 ∷ 2 ∷ 1 ∷ 0 ∷ 0 ∷ 0 ∷ 2 ∷ 65536 ∷ 3 ∷ 1 ∷ 16384 ∷ 4 ∷ 2 ∷ 100 ∷ 101 ∷ 102 ∷ 100 ∷ 101 ∷ 102 ∷ []
 
+-- 0 Inner (1 LeftOuter 2), the Inner predicate on 0 and 2: {0,2} with {1} lies against its lead edge, and has the rows of {0,2}, its own left plan
+abbrev againstLead : List ℕ
+againstLead = 5 ∷ 24 ∷ 2 ∷ 104 ∷ 3 ∷ 128 ∷ 9 ∷ 4 ∷ 2 ∷ 1 ∷ 9 ∷ 8 ∷ 0 ∷ 1 ∷ 9 ∷ 16 ∷ 1 ∷ 1 ∷ 3 ∷ 0 ∷ 0 ∷ 1 ∷ 0 ∷ 0 ∷ 1 ∷ 1 ∷ 1024 ∷ 0 ∷ 2 ∷ 32768 ∷ 1 ∷ 2 ∷ 1 ∷ 2 ∷ 0 ∷ []
+
 -- document 01's starred sheets, with all that comes out
 abbrev starredRows : List Row
 starredRows =
@@ -189,7 +193,7 @@ starredRows =
     (pair 2 4 ∷ pair 1 2 ∷ pair 1 6 ∷ pair 3 4 ∷ [])
     ∷ []
 
--- stores too small, stores and limits met, and points of edge building and search that the starred sheets leave open
+-- stores too small, stores and limits met, and points of edge building, search and rows that the starred sheets leave open
 abbrev furtherRows : List Row
 furtherRows =
     row sheetA (rooms 1 1088 512) defaultLimit 11 0 none32 [] [] [] []
@@ -260,6 +264,11 @@ furtherRows =
     (scan 0 256 256 ∷ scan 1 64 64 ∷ scan 2 16 16 ∷ join 6 1 2 2 0 256 1360 ∷ join 5 0 2 1 0 4096 8464 ∷ join 7 0 3 0 0 65536 132688 ∷ join 3 0 1 0 8 16384 33088 ∷ join 7 0 3 0 0 65536 132688 ∷ join 7 6 2 1 0 65536 360784 ∷ join 7 4 1 0 0 65536 336208 ∷ [])
     (entry 1 0 ∷ entry 2 1 ∷ entry 4 2 ∷ entry 6 3 ∷ entry 5 4 ∷ entry 7 5 ∷ entry 3 6 ∷ [])
     (pair 2 4 ∷ pair 1 4 ∷ pair 1 6 ∷ pair 1 2 ∷ pair 1 6 ∷ pair 3 4 ∷ pair 5 2 ∷ [])
+    ∷ row againstLead ample defaultLimit 0 8 5
+    (edge 2 4 0 3 2 ∷ edge 1 4 1 4 0 ∷ [])
+    (scan 0 4 4 ∷ scan 1 8 8 ∷ scan 2 16 16 ∷ join 6 1 2 0 3 8 160 ∷ join 5 0 2 1 0 32 116 ∷ join 7 0 3 1 0 16 212 ∷ join 7 4 1 0 3 32 412 ∷ [])
+    (entry 1 0 ∷ entry 2 1 ∷ entry 4 2 ∷ entry 6 3 ∷ entry 5 4 ∷ entry 7 5 ∷ [])
+    (pair 2 4 ∷ pair 1 4 ∷ pair 1 6 ∷ pair 5 2 ∷ [])
     ∷ []
 
 abbrev table : List Row

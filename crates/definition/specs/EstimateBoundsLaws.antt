@@ -15,8 +15,11 @@ use lib.Ieee.Exact.{HasValue, round-exact}
 use lib.Ieee.Order.{round-mono}
 use lib.Ieee.Back.{round-whole}
 use lib.Ieee.Positive.{num, den, den-pos}
+use Rattle.nodeset.specs.SubsetLaws.{All}
+use Rattle.definition.specs.AllLaws.{all-get}
 use Rattle.definition.specs.FloatLaws.{by-form, mul-is, add-is, value-sign, value-num}
-use Rattle.definition.specs.Cost.{Estimate, whole, full, ceiling, leafEstimate, product, fraction, filtered, capped, candidateRows, candidateFrom, candidateEstimate}
+use Rattle.definition.specs.Cost.{Estimate, whole, full, ceiling, leafEstimate, product, fraction, filtered, capped, lesser, greater}
+use Rattle.definition.specs.Cost.{RowRule, innerRows, rowRules, rowsByKind, candidateRows, candidateFrom, candidateEstimate}
 use Rattle.definition.specs.Hypergraph.{Edge, noEdge, hasPredicate, selectivitiesOf}
 use Rattle.definition.specs.EstimateOrder.{NonNegative}
 use Rattle.definition.specs.EstimateOrderLaws.{not-less→at-least}
@@ -175,9 +178,48 @@ capped-at-most x p = go (lt ceiling x) (λ e. not-less→at-least ceiling x refl
     go true f = record { sign = refl; bound = lit≤ tt }
     go false f = record { sign = p; bound = le-trans (le-of-eq (sym (mul-one (num x)))) (f refl) }
 
+of-two : (b : Bool) (x y : Float) → NonNegative x → NonNegative y → NonNegative (elim b [ true ↦ x | false ↦ y ])
+of-two true x y p q = p
+of-two false x y p q = q
+
+lesser-non-negative : (x y : Float) → NonNegative x → NonNegative y → NonNegative (lesser x y)
+lesser-non-negative x y p q = of-two (lt x y) x y p q
+
+greater-non-negative : (x y : Float) → NonNegative x → NonNegative y → NonNegative (greater x y)
+greater-non-negative x y p q = of-two (lt x y) y x q p
+
+-- the rule gives no negative number where it is given none
+abbrev Keeps : RowRule → Type 0
+Keeps f = (e l r : Float) → NonNegative e → NonNegative l → NonNegative r → NonNegative (f e l r)
+
+all-keep : All Keeps rowRules
+all-keep =
+    (same, (lesser-left, (lesser-left, (greater-left, (greater-right, (greater-both, (left, (left, (same, tt)))))))))
+  where
+    same : Keeps innerRows
+    same e l r p q s = p
+
+    left : Keeps (λ e l r. l)
+    left e l r p q s = q
+
+    lesser-left : Keeps (λ e l r. lesser e l)
+    lesser-left e l r p q s = lesser-non-negative e l p q
+
+    greater-left : Keeps (λ e l r. greater e l)
+    greater-left e l r p q s = greater-non-negative e l p q
+
+    greater-right : Keeps (λ e l r. greater e r)
+    greater-right e l r p q s = greater-non-negative e r p s
+
+    greater-both : Keeps (λ e l r. greater e (greater l r))
+    greater-both e l r p q s = greater-non-negative e (greater l r) p (greater-non-negative l r q s)
+
+rows-by-kind-keeps : (kind : ℕ) → Keeps (rowsByKind kind)
+rows-by-kind-keeps kind = all-get Keeps innerRows rowRules kind all-keep (all-keep .0)
+
 -- for every kind
 pub candidate-rows-at-most : (kind : ℕ) (l r : Estimate) (x : Float) → NonNegative (l .rows) → NonNegative (r .rows) → NonNegative x → AtMost (2 ^ 500) (candidateRows kind l r x)
-candidate-rows-at-most kind l r x hl hr h = capped-at-most x h
+candidate-rows-at-most kind l r x hl hr h = capped-at-most (rowsByKind kind x (l .rows) (r .rows)) (rows-by-kind-keeps kind x (l .rows) (r .rows) h hl hr)
 
 -- ---- a leaf, and a candidate
 

@@ -22,13 +22,8 @@ use Rattle.definition.specs.Hypergraph.{Edge}
 use Rattle.definition.specs.Connected.{ownClasses, oneClass, met, merge, merges, round, rounds, connected}
 use Rattle.definition.specs.Edges.{JoinRecord, Sides, Build, sideSet, linked, gained, inside, widenedLeft, widenedRight, widen, sidesFor, join, buildFrom, emptyBuild}
 use Rattle.definition.specs.Settled.{sub-of, sub-trans, sub-or-l, sub-or-r, or-sub}
-use Rattle.definition.specs.AllLaws.{all-map, all-of, all-mapped}
+use Rattle.definition.specs.AllLaws.{all-map, all-of, all-get, all-mapped}
 use Rattle.definition.specs.EdgeLaws.{apart-parts, apart-or, apart-sym, not-empty, LiesIn, Working, Piled, from-reached, empty-reached}
-
-all-get : {A : Type 0} (P : A → Type 0) (d : A) (xs : List A) (i : ℕ) → All P xs → P d → P (getD xs i d)
-all-get P d [] i a p = p
-all-get P d (x ∷ xs) zero a p = a .0
-all-get P d (x ∷ xs) (suc i) a p = all-get P d xs i (a .1) p
 
 -- ---- classes of which each lies on one side of a border, C or D, stay so when a set that lies on one side is merged
 

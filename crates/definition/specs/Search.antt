@@ -107,7 +107,8 @@ candidateKind i c cs =
     let k = getD (i .kinds) (getD (i .edges) c noEdge .source) 0 in
     elim (anyPredicate (i .edges) (c ∷ cs)) [ true ↦ elim (eqb k crossProduct) [ true ↦ inner | false ↦ k ] | false ↦ crossProduct ]
 
--- the plans l and r, kept for a and b, joined over the connecting edges c ∷ cs
+-- the plans l and r, kept for a and b, joined over the connecting edges c ∷ cs. Request 2026-01: "Left and right are the trial's own, as its plan
+-- reads, also where its lead edge lies the other way round."
 unfoldable pub candidate : Input → State → ℕ → ℕ → ℕ → ℕ → ℕ → List ℕ → Plan
 candidate i st a b l r c cs =
     record {

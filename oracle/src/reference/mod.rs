@@ -1,5 +1,6 @@
-//! A plain reference for the whole call, written out from document 01: sheet
-//! bytes, list lengths and visit limit to answer, counts, visits and entries.
+//! A plain reference for the whole call, written out from document 01 and the
+//! requests that have landed: sheet bytes, list lengths and visit limit to
+//! answer, counts, visits and entries.
 
 pub mod check;
 pub mod conflict;

@@ -1,10 +1,11 @@
-//! The search over the edges: document 01's section "Plans and memo".
+//! The search over the edges: document 01's section "Plans and memo", with
+//! request 2026-01's rows.
 
 use std::collections::HashMap;
 
 use super::sets::{highest, lowest, subsets, up_to_lowest, within};
 use crate::outcome::answer::{FULL_HOPPER, FULL_SHELF, SPENT_SHIFT};
-use crate::outcome::{Edge, MemoEntry, Plan};
+use crate::outcome::{Edge, Lists, MemoEntry, Plan};
 use crate::sheet::{CROSS_PRODUCT, FULL_SELECTIVITY, INNER, LEAF, MAX_ROWS, NONE, Sheet};
 
 /// What the search may use.
@@ -145,16 +146,16 @@ impl<'a> Search<'a> {
     /// The candidate (document 01: trial) of two plans over their connecting edges.
     fn candidate(&self, left: u32, right: u32, connecting: &[usize]) -> Plan {
         let (a, b) = (self.plans[left as usize], self.plans[right as usize]);
-        let pairs = f64::from_bits(a.rows) * f64::from_bits(b.rows);
-        let mut rows = pairs;
-        let mut kind = CROSS_PRODUCT;
-        for edge in connecting.iter().map(|number| &self.edges[*number]) {
-            if edge.predicate != NONE {
-                let predicate = &self.sheet.predicates[edge.predicate as usize];
-                rows *= f64::from(predicate.selectivity) / f64::from(FULL_SELECTIVITY);
-                kind = self.source_kind(connecting[0]);
-            }
-        }
+        let (left_rows, right_rows) = (f64::from_bits(a.rows), f64::from_bits(b.rows));
+        let pairs = left_rows * right_rows;
+        let edges = connecting.iter().map(|number| &self.edges[*number]);
+        let kind = if edges.clone().all(|edge| edge.predicate == NONE) {
+            CROSS_PRODUCT
+        } else {
+            self.source_kind(connecting[0])
+        };
+        let filtered = filtered(self.sheet, edges, pairs);
+        let mut rows = rows_by_kind(kind, filtered, left_rows, right_rows);
         if rows > MAX_ROWS {
             rows = MAX_ROWS;
         }
@@ -217,6 +218,38 @@ impl<'a> Search<'a> {
     fn connecting(&self, left: u64, right: u64) -> Vec<usize> {
         (0..self.edges.len()).filter(|i| connects(&self.edges[*i], left, right)).collect()
     }
+}
+
+/// What the predicates of connecting edges, in edge order, keep of so many row pairs.
+pub fn filtered<'a>(sheet: &Sheet, edges: impl Iterator<Item = &'a Edge>, pairs: f64) -> f64 {
+    let predicates = edges.map(|edge| edge.predicate).filter(|predicate| *predicate != NONE);
+    predicates.fold(pairs, |rows, predicate| {
+        let selectivity = sheet.predicates[predicate as usize].selectivity;
+        rows * (f64::from(selectivity) / f64::from(FULL_SELECTIVITY))
+    })
+}
+
+/// Request 2026-01: rows by kind, from what the predicates leave of the row pairs.
+fn rows_by_kind(kind: u32, filtered: f64, left: f64, right: f64) -> f64 {
+    let lesser = |x: f64, y: f64| if y < x { y } else { x };
+    let greater = |x: f64, y: f64| if y > x { y } else { x };
+    match kind {
+        1 | 2 => lesser(filtered, left),
+        3 => greater(filtered, left),
+        4 => greater(filtered, right),
+        5 => greater(filtered, greater(left, right)),
+        6 | 7 => left,
+        _ => filtered,
+    }
+}
+
+/// The candidate's rows are what an Inner join over the same edges would have.
+pub fn has_inner_rows(sheet: &Sheet, lists: &Lists, plan: &Plan) -> bool {
+    let rows = |plan: u32| f64::from_bits(lists.plans[plan as usize].rows);
+    let (left, right) = lists.sides(plan);
+    let connecting = lists.edges.iter().filter(|edge| connects(edge, left, right));
+    let inner = filtered(sheet, connecting, rows(plan.left) * rows(plan.right)).min(MAX_ROWS);
+    inner.to_bits() == plan.rows
 }
 
 /// One side of the edge lies in the one set and its other side in the other.

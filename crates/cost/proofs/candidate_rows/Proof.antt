@@ -1,13 +1,18 @@
 -- `cost::candidate_rows` meets its contract. Assumes nothing.
+use borrow.Author.Needs.{needs}
+use mathlib.Core.Path.{ap, _∙_}
+use Rattle.definition.specs.Cost.{capped}
 use Rattle.cost.proofs.candidate_rows.Statement.{statement}
 use Rattle.cost.proofs.candidate_rows.Tie as tie
-use Rattle.cost.proofs.Floats.{over, not-over}
+
+rows-by-kind-requires : tie.Need-rows-by-kind-requires
+rows-by-kind-requires c κs = search needs
+
+capped-requires : tie.Need-capped-requires
+capped-requires c κs = search needs
 
 returns : tie.Need-returns
-returns c = over _ (c .if1 .taken)
-
-returns-2 : tie.Need-returns-2
-returns-2 c = not-over _ (c .if1 .left)
+returns c = c .capped .ensures ∙ ap capped (c .before .rows-by-kind .ensures)
 
 pub candidate-rows-spec : {M : Type 1} → statement M
-candidate-rows-spec = tie.close (tie.spec returns returns-2)
+candidate-rows-spec = tie.close (tie.spec rows-by-kind-requires capped-requires returns)
