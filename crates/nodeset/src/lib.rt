@@ -1,4 +1,6 @@
 // Sets of leaves as 64-bit numbers, bit i for leaf i (NodeSet of hypergraph.rs), and the numbers' own types.
+#![tactic(auto)]
+
 ghost use Rattle.std.specs.Prelude.{◌≡◌, ℕ, bit_or};
 ghost use Rattle.nodeset.specs.Sets.{within, disjoint, difference, singleton, lowest, highest, all_below, up_to_lowest};
 ghost use Rattle.nodeset.specs.Subsets.{next_subset};
