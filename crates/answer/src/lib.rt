@@ -1,4 +1,6 @@
 // The answer of a call: refused, or how the search ended with its counts; and the same in document 01's numbers.
+#![tactic(auto)]
+
 ghost use Rattle.std.specs.Prelude.{◌≡◌};
 ghost use Rattle.answer.specs.Answers.{reported_of};
 

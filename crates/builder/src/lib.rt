@@ -1,6 +1,8 @@
 // The state of edge building, after HypergraphBuilder of hypergraph.rs. Edges are written straight to the caller's lists. The earlier joins, the
 // leaves and the pile stand in two lists of sections of 64 places. numbers: the joins' types, then the leaves' first columns and their column
 // counts. sets: the pile, then the joins' left and right leaves and their left and right record sets. The builder says how many places count.
+#![tactic(auto)]
+
 ghost use Rattle.std.specs.Prelude.{◌≡◌, List, [], ◌∷◌, ◌++◌, ℕ, ◌+◌, ◌<◌};
 ghost use Rattle.definition.specs.Edges.{edge_of};
 ghost use Rattle.ses.specs.View.{Fit, columns_at};

@@ -1,6 +1,8 @@
 // Replays recorded calls from standard input (crate records). For each record the 14 lists are filled with a pattern and lent in the recorded
 // lengths; then the answer, the counts, every entry, and the pattern behind the entries are compared. The crate's stdin is the oracle's
 // calls.bin.
+#![tactic(auto)]
+
 ghost use Rattle.std.specs.Prelude.{◌≡◌, ◌+◌, ◌*◌, ◌<◌, ◌≤◌, length};
 
 use answer::{Answer, Report};

@@ -1,5 +1,7 @@
 // What is due for a pair of sets, read from the lent stores: a candidate with all its fields and its memo entry, a stop, or nothing. A store is
 // one list for each field; of a plan's: prows, pcost; of a memo entry: mset, mplan.
+#![tactic(auto)]
+
 ghost use Rattle.std.specs.Prelude.{◌≡◌, take};
 ghost use Rattle.cost.specs.View.{estimate_of};
 ghost use Rattle.definition.specs.EdgeView.{Held};

@@ -1,4 +1,6 @@
 // The lengths of the stores, and the checks before anything is searched: the sheet's own, then 10 and 11.
+#![tactic(auto)]
+
 ghost use Rattle.std.specs.Prelude.{◌≡◌, [], ◌∷◌, ◌++◌, ◌||◌, min, ◌≤◌, ltb};
 ghost use Rattle.definition.specs.Call.{store_length, edge_checks, store_checks, refused_with, leaves_in};
 ghost use Rattle.definition.specs.Sheet.{question_of, first_failing};

@@ -1,4 +1,6 @@
 // The join types of hypergraph.rs and its three compatibility tables.
+#![tactic(auto)]
+
 ghost use Rattle.std.specs.Prelude.{◌≡◌, ℕ, ◌<◌};
 ghost use Rattle.definition.specs.Tables.{type_of, assoc, l_asscom, r_asscom, asked};
 ghost use Rattle.conflict.specs.Views.{type_number, asked_of, table_at, Says};

@@ -1,4 +1,6 @@
 // Prints the three tables, row by row: + for yes, - for no, 4 where a type is above 7. Then the type of each item kind from 0 to 9.
+#![tactic(auto)]
+
 use conflict::{Compatibility, HyperedgeJoinType};
 use libc::STDOUT_FILENO;
 

@@ -1,4 +1,6 @@
 // Whether two sets of leaves are connected by the edges so far: the connectivity test of HypergraphBuilder.
+#![tactic(auto)]
+
 ghost use Rattle.std.specs.Prelude.{◌≡◌, false, ℕ, ◌+◌, ◌<◌, ◌≤◌, length, take};
 ghost use Rattle.definition.specs.Connected.{own_classes, one_class, met, merge, merges, round, rounds, connected};
 

@@ -1,4 +1,6 @@
 // Rows and cost of plans (CostModel of cost.rs, one model): of a leaf, and of a candidate over the edges that connect its two sets.
+#![tactic(auto)]
+
 ghost use Rattle.std.specs.Prelude.{◌≡◌, ◌&&◌, get_or};
 ghost use Rattle.nodeset.specs.Sets.{within};
 ghost use Rattle.definition.specs.Cost.{whole, leaf_estimate, product, lesser, greater, capped, rows_by_kind, candidate_rows, candidate_from, cheaper};

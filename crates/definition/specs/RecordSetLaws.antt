@@ -30,7 +30,7 @@ module _ (C D : ℕ → Type 0) (empty : C 0) (both : (a b : ℕ) → C a → C 
   met_side : (t : ℕ) (ps : List ℕ) → C t → All (λ p. C p ⊎ D p) ps → C (met s t ps)
   unfolding met
   met_side t [] c a = c
-  met_side t (p ∷ ps) c a = met_side _ ps (go (disjoint p s) refl a.0) a.1
+  met_side t (p ∷ ps) c a = met_side (elim (disjoint p s) [ true ↦ t | false ↦ bit_or t p ]) ps (go (disjoint p s) refl a.0) a.1
     where
       go : (x : Bool) → disjoint p s ≡ x → C p ⊎ D p → C (elim x [ true ↦ t | false ↦ bit_or t p ])
       go true e o = c

@@ -1,6 +1,8 @@
 // The search of join_ordering.rs over the lent stores, from the highest leaf down. What each function ensures is one equation of whole
 // stores: the lists and counts at exit are the definition's walk of those at entry. A stop ends the loop: what comes next is then 0.
 // Arguments are as in crate emit_csg_cmp, with the limit of visits.
+#![tactic(auto)]
+
 ghost use Rattle.std.specs.Prelude.{◌≡◌};
 ghost use Rattle.definition.specs.EdgeView.{Held};
 ghost use Rattle.candidate.specs.Store.{given, lists, store};

@@ -1,5 +1,7 @@
 // emit_csg: the connected set s1 is paired with what grows from each of its neighbours. A stop ends the loop: what comes next is then 0.
 // Arguments are as in crate emit_csg_cmp, with the limit of visits.
+#![tactic(auto)]
+
 ghost use Rattle.std.specs.Prelude.{◌≡◌};
 ghost use Rattle.definition.specs.EdgeView.{Held};
 ghost use Rattle.candidate.specs.Store.{given, lists, store};

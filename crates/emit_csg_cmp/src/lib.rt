@@ -2,6 +2,8 @@
 // each field; of a plan: pset, pleft, pright, plead, pkind, prows, pcost; of a memo entry: mset, mplan. A plan or an entry past a list's end is
 // not written, so that no function asks for room. The other arguments: the first n edges (left, right, predicate, source), the items' kinds, the
 // predicates' selectivities, the stores' lengths (proom, mroom), and the counts p.
+#![tactic(auto)]
+
 ghost use Rattle.std.specs.Prelude.{◌≡◌, ◌<◌};
 ghost use Rattle.cost.specs.View.{estimate_of};
 ghost use Rattle.definition.specs.EdgeView.{Held};

@@ -1,5 +1,7 @@
 // enumerate_cmp_rec: a connected set s1 stands, and the other set of the pair grows. A stop ends each loop: what comes next is then 0.
 // Arguments are as in crate emit_csg_cmp, with the limit of visits.
+#![tactic(auto)]
+
 ghost use Rattle.std.specs.Prelude.{◌≡◌, ◌≤◌, length};
 ghost use Rattle.definition.specs.EdgeView.{Held};
 ghost use Rattle.candidate.specs.Store.{given, lists, store};

@@ -1,5 +1,7 @@
 // enumerate_csg_rec: the connected set s1 grows, and each that has a plan is paired. A stop ends each loop: what comes next is then 0.
 // Arguments are as in crate emit_csg_cmp, with the limit of visits.
+#![tactic(auto)]
+
 ghost use Rattle.std.specs.Prelude.{◌≡◌};
 ghost use Rattle.definition.specs.EdgeView.{Held};
 ghost use Rattle.candidate.specs.Store.{given, lists, store};

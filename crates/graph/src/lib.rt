@@ -1,5 +1,7 @@
 // What the search asks of the edges: neighborhood and has_edge of join_ordering.rs. Edges are parallel slices, of which the first n places
 // count.
+#![tactic(auto)]
+
 ghost use Rattle.std.specs.Prelude.{◌≡◌, ℕ, ◌≤◌, length};
 ghost use Rattle.definition.specs.Hypergraph.{beyond};
 ghost use Rattle.graph.specs.View.{Neighbors, HasEdge};

@@ -1,5 +1,7 @@
 // Edge building, after HypergraphBuilder of hypergraph.rs: the walk of the items (the Rust's collect). A leaf is put on the pile, a join takes
 // inner then outer off it and puts itself on.
+#![tactic(auto)]
+
 ghost use Rattle.std.specs.Prelude.{◌≡◌, ◌+◌, ◌<◌, ◌≤◌, length};
 ghost use Rattle.definition.specs.Question.{open_item, open_question, item};
 ghost use Rattle.definition.specs.Sheet.{question_of};

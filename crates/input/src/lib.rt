@@ -1,5 +1,7 @@
 // What the search is given beside the edges, read from an accepted sheet into arrays: the items' kinds, the predicates' selectivities, the
 // leaves' rows and column counts.
+#![tactic(auto)]
+
 ghost use Rattle.std.specs.Prelude.{◌≡◌, ◌++◌, map, ◌+◌, ◌<◌, ◌≤◌, length, take, drop};
 ghost use Rattle.definition.specs.Question.{Item, Predicate, open_question, leaf_count};
 ghost use Rattle.definition.specs.Sheet.{question_of};

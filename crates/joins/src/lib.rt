@@ -1,4 +1,6 @@
 // A join's sides, its edges and its record.
+#![tactic(auto)]
+
 ghost use Rattle.std.specs.Prelude.{◌≡◌, List, ℕ, ◌+◌, ◌≤◌, length, drop};
 ghost use Rattle.definition.specs.Question as question;
 ghost use Rattle.definition.specs.Question.{part, open_question};

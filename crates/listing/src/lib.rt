@@ -1,4 +1,6 @@
 // The tried list as text, made from the open part of a result alone: answer number, visits, and the candidates' left and right sets.
+#![tactic(auto)]
+
 ghost use Rattle.std.specs.Prelude.{◌≡◌, [], ◌∷◌, ◌+◌, ◌^◌, ◌≤◌, ◌<◌, length, get_or, set};
 ghost use Rattle.std.proofs.lemmas.List.Edits.{sets};
 ghost use Rattle.definition.specs.TriedList.{decimal, hex_digit, hex_digits, hex16, line, tried_list};

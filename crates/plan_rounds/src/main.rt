@@ -1,5 +1,7 @@
 // Calls the planner many times on one sheet, for the bench (docs/BENCH.md). Standard input: the number of rounds, four bytes, the lowest
 // first; then the sheet. Prints the last call's answer number, edges, plans, memo entries, visits and chosen plan.
+#![tactic(auto)]
+
 ghost use Rattle.std.specs.Prelude.{◌<◌};
 
 use answer::Report;

@@ -1,5 +1,7 @@
 // The planner's call: a sheet's bytes, a visit limit and the lent lists to an answer. Every sheet, list length and limit gets one. The edge
 // lists are eleft to ekind, the plan lists pset to pcost, the memo lists mset and mplan.
+#![tactic(auto)]
+
 ghost use Rattle.definition.specs.Call.{default_limit};
 ghost use Rattle.answer.specs.Answers.{reported_of};
 ghost use Rattle.run.specs.Lent.{lent};

@@ -1,5 +1,7 @@
 // Stored records on standard input: a line of text, then records. A record begins with its whole length in bytes, a sheet's length and the
 // sheet, filled up to whole words. Numbers are little-endian; a word has 4 bytes, a long 8. The oracle writes them (oracle/README.md).
+#![tactic(auto)]
+
 mod call;
 mod entries;
 mod lists;

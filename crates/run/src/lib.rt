@@ -1,4 +1,6 @@
 // What is done for an accepted sheet: its edges are built, its leaves and tables read, and the search is run.
+#![tactic(auto)]
+
 ghost use Rattle.std.specs.Prelude.{◌≡◌};
 ghost use Rattle.definition.specs.Sheet.{question_of};
 ghost use Rattle.definition.specs.Search.{search};

@@ -1,4 +1,6 @@
 // The search as a whole: the leaves' plans and memo entries, the walk from them, and how it ended. The stores are as in crate candidate.
+#![tactic(auto)]
+
 ghost use Rattle.std.specs.Prelude.{◌≡◌, ◌≤◌, get_or, take};
 ghost use Rattle.nodeset.specs.Sets.{all_below};
 ghost use Rattle.definition.specs.Cost.{leaf_estimate};

@@ -1,5 +1,7 @@
 // ses_for_predicate of hypergraph.rs: a side's syntactic eligibility set, the leaves that a join's columns name in it. The leaves' columns are
 // ranges of the sheet's columns: leaf k's are at place k of two lists.
+#![tactic(auto)]
+
 ghost use Rattle.std.specs.Prelude.{◌≡◌, ◌&&◌, ◌+◌, eqb, get_or};
 ghost use Rattle.nodeset.specs.Sets.{bit};
 ghost use Rattle.definition.specs.Lists.{member};

@@ -1,4 +1,6 @@
 // The question sheet: where its sections stand, and the readers of its fields. Nothing is copied; a sheet stays where the caller has it.
+#![tactic(auto)]
+
 mod read;
 
 pub use read::{

@@ -1,4 +1,6 @@
 // Boundary and damaged sheets, each with the sheet check's answer.
+#![tactic(auto)]
+
 mod cases;
 mod writing;
 

@@ -1,4 +1,6 @@
 // The check of the question sheet: any bytes get one of the answers 1 to 9, or are accepted.
+#![tactic(auto)]
+
 mod checks;
 
 ghost use Rattle.std.specs.Prelude.{◌≡◌};

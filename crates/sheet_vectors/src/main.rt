@@ -1,5 +1,7 @@
 // Replays recorded sheet checks from standard input (crate records): behind its sheet a record has the expected answer. The crate's stdin is
 // the oracle's checks.bin.
+#![tactic(auto)]
+
 ghost use Rattle.std.specs.Prelude.{◌≡◌, ◌+◌, ◌<◌, ◌≤◌};
 
 use libc::STDOUT_FILENO;

@@ -1,4 +1,6 @@
 // What comes next in the search's loops: 0, the loop's end, also where the search has stopped.
+#![tactic(auto)]
+
 ghost use Rattle.std.specs.Prelude.{◌≡◌};
 ghost use Rattle.stepping.specs.Next.{subset_after, leaves_after, count_after};
 

@@ -1,4 +1,6 @@
 // The search's state: its counts (DPhyp), and what is read from and written to the lent lists.
+#![tactic(auto)]
+
 mod estimates;
 mod memo;
 mod numbers;

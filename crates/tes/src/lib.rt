@@ -1,5 +1,7 @@
 // The total eligibility sets of a join: its two sides, widened by the earlier joins (cd_e_for_predicate of hypergraph.rs). Edges and
 // earlier joins are parallel slices, of which the first n and the first m places count.
+#![tactic(auto)]
+
 ghost use Rattle.std.specs.Prelude.{◌≡◌, ℕ, ◌≤◌, length};
 ghost use Rattle.conflict.specs.Views.{asked_of};
 ghost use Rattle.definition.specs.Tables.{assoc, l_asscom, r_asscom};

@@ -1,5 +1,7 @@
 // Reads a sheet on standard input, and prints its tried list: answer number, number of candidates and visits, then each candidate's number,
 // left and right set.
+#![tactic(auto)]
+
 use libc::{STDIN_FILENO, STDOUT_FILENO};
 use listing::Written;
 

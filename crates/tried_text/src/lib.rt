@@ -1,4 +1,6 @@
 // The text that the tried list's program prints of a sheet.
+#![tactic(auto)]
+
 ghost use Rattle.std.specs.Prelude.{◌≡◌, ◌+◌, ◌-◌, ◌*◌, ◌≤◌, length};
 ghost use Rattle.listing.specs.Text.{answer_for, written_in};
 ghost use Rattle.tried_text.specs.Printed.{printed, longest_text, OpenText, KeptBehind, leaves_passed, text_from};
