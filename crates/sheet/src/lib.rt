@@ -9,14 +9,14 @@ pub use read::{
 };
 
 // Where a table starts, in bytes, and how many entries it has.
-#[derive(Drop)]
+#[derive(Clone, Copy)]
 pub struct Section {
     pub offset: usize,
     pub count: usize,
 }
 
 // Where an accepted sheet's tables stand; stride is the length of an item in bytes.
-#[derive(Drop)]
+#[derive(Clone, Copy)]
 pub struct Sections {
     pub items: Section,
     pub stride: usize,

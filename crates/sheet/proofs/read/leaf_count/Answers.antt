@@ -1,0 +1,33 @@
+use mathlib.Core.Path.{sym, ◌∙◌}
+use native.Mathlib.Omega.{arith}
+use Prim.Native.Nat.{◌<◌}
+use lib.ListN.{length}
+use Rattle.definition.specs.Sheet.{question_of}
+use Rattle.definition.specs.QuestionLaws.{counts-leaf, counts-join, counts_none}
+use Rattle.definition.specs.SheetLaws.{length_items}
+use Rattle.sheet.proofs.read.leaf_count.Goals as goal
+use Rattle.sheet.proofs.read.leaf_count.Goals.{then-item_kind-eq9, else-item_kind-eq9}
+
+pub loop-i-init : goal.loop-i-init
+loop-i-init c = (omega arith, omega arith, omega arith)
+
+pub loop-i-preserved : goal.loop-i-preserved
+loop-i-preserved c =
+    let a = c.args in
+    let q = question_of a.sheet.now in
+    let i = c.loop-i.i in
+    let h : i < length q.items = omega (arith, length_items a.sheet.now) in
+    let kind = c.item_kind.ensures in
+    elim c.if-item_kind-eq9.branch [
+      | then-item_kind-eq9 w ↦
+          (omega arith, omega arith, omega (arith, counts-leaf q i h (sym kind ∙ w.if-item_kind-eq9.true), c.loop-i.invariant.2))
+      | else-item_kind-eq9 w ↦
+          (omega arith, omega arith, omega (arith, counts-join q i h (λ e. w.if-item_kind-eq9.false (kind ∙ e)), c.loop-i.invariant.2))
+    ]
+
+pub returns : goal.returns
+returns c =
+    let a = c.args in
+    let q = question_of a.sheet.now in
+    let i = c.loop-i.i in
+    omega (arith, counts_none q i (omega (arith, length_items a.sheet.now)), c.loop-i.invariant.2)
