@@ -1,7 +1,7 @@
 -- Floats of the source: its literals, the ceiling, and a whole number from its halves. Assumes nothing.
 use mathlib.Core.Path.{◌≡◌, refl, sym, ap, ap₂, ◌∙◌}
 use mathlib.Core.Bool.{true, false}
-use Prim.Native.Nat.{ℕ, ◌+◌, ◌*◌, ◌/◌, ◌%◌, ◌^◌, ◌≤◌, ◌<◌}
+use Prim.Native.Nat.{ℕ, ◌+◌, ◌*◌, ◌/◌, ◌%◌, ◌^◌, ◌<◌}
 use native.Mathlib.Nat.{le_of_lt, lt_of_lt_of_le, mul-lt-mul_of_pos_right, mul-one, mul_comm, mul_assoc, mul-mul-mul_comm, add-mul, mul-pos, div-add-mod'}
 use native.Mathlib.Omega.{arith}
 use lib.Dec.{lit<, lit≤}

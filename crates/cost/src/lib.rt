@@ -13,7 +13,7 @@ use nodeset::{NONE, PredicateId};
 // 2^500
 const CEILING: f64 = 3.273390607896142e150;
 
-#[derive(Drop)]
+#[derive(Clone, Copy)]
 pub struct Estimate {
     pub rows: f64,
     pub cost: f64,
