@@ -6,15 +6,15 @@ ghost use Rattle.nodeset.specs.Sets.{within, disjoint, difference, singleton, lo
 ghost use Rattle.nodeset.specs.Subsets.{next_subset};
 
 // A leaf's number.
-#[derive(Drop)]
+#[derive(Clone, Copy)]
 pub struct NodeId(pub u32);
 
 // A plan's number: its place in the plan store.
-#[derive(Drop)]
+#[derive(Clone, Copy)]
 pub struct PlanId(pub u32);
 
 // A predicate's number: its place in the predicate table.
-#[derive(Drop)]
+#[derive(Clone, Copy)]
 pub struct PredicateId(pub u32);
 
 // No number, where a predicate, a lead edge or a chosen plan would have one.

@@ -25,7 +25,7 @@ pub struct Sections {
 }
 
 // Entries first to first + count - 1 of a table.
-#[derive(Drop)]
+#[derive(Clone, Copy)]
 pub struct Range {
     pub first: u32,
     pub count: u32,
