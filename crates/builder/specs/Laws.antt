@@ -7,7 +7,7 @@ use Rattle.std.proofs.lemmas.List.{drop-set-add, take-set-le}
 use Rattle.std.proofs.Math.Seq.{take-set-lt}
 use Rattle.nodeset.specs.Sets.{singleton}
 use Rattle.definition.specs.Lists.{tabulate}
-use Rattle.definition.specs.ListLaws.{tabulate_more}
+use Rattle.definition.proofs.ListLaws.{tabulate_more}
 use Rattle.definition.specs.Hypergraph.{Edge}
 use Rattle.definition.specs.Edges.{JoinRecord, Sides, Build}
 use Rattle.definition.specs.EdgeView.{edge_at, edges_of}

@@ -13,8 +13,8 @@ use lib.Ieee.Back.{round_whole}
 use lib.Ieee.Scale.{round_same}
 use lib.Ieee.Positive.{num, den, den_pos}
 use Rattle.definition.specs.Cost.{whole, full, ceiling, capped}
-use Rattle.definition.specs.FloatLaws.{mul_is, add_is, value_sign, value_num}
-use Rattle.definition.specs.EstimateBoundsLaws.{Exact, exact_value}
+use Rattle.definition.proofs.FloatLaws.{mul_is, add_is, value_sign, value_num}
+use Rattle.definition.proofs.EstimateBoundsLaws.{Exact, exact_value}
 
 -- ---- a literal is the float of its bits
 

@@ -14,8 +14,8 @@ use Rattle.definition.specs.Answers.{plans_full, memo_full}
 use Rattle.definition.specs.Hypergraph.{Edge, none32, no_edge, lead_of, connecting}
 use Rattle.definition.specs.Cost.{Estimate, product, candidate_from, cheaper}
 use Rattle.definition.specs.Connection.{Connection, connection_over, connection}
-use Rattle.definition.specs.EdgeViewLaws.{length-edges, edges_get}
-use Rattle.definition.specs.EdgeWalkLaws.{lead_is_edge}
+use Rattle.definition.proofs.EdgeViewLaws.{length-edges, edges_get}
+use Rattle.definition.proofs.EdgeWalkLaws.{lead_is_edge}
 use Rattle.definition.specs.Search.{Plan, Entry, Leaf, Input, State, absent, plan_at, find, replace, kept, stopped, candidate_kind, candidate, memo_after, added, stored, joined, attempt}
 use Rattle.store.specs.declared.DPhyp.{DPhyp}
 use Rattle.store.specs.declared.Found.{Found}

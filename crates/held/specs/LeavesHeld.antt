@@ -12,7 +12,7 @@ use Rattle.definition.specs.Question.{leaf}
 use Rattle.definition.specs.Hypergraph.{none32}
 use Rattle.definition.specs.Cost.{leaf_estimate}
 use Rattle.definition.specs.Search.{Plan, Entry, Leaf, leaf_plans, leaf_entries, start}
-use Rattle.definition.specs.MemoLaws.{leaf_plans-length}
+use Rattle.definition.proofs.MemoLaws.{leaf_plans-length}
 use Rattle.store.specs.declared.DPhyp.{DPhyp}
 use Rattle.store.specs.Counts.{counts}
 use Rattle.store.specs.Estimates as estimates

@@ -11,8 +11,8 @@ use Rattle.definition.specs.Hypergraph.{none32, Sided, connecting}
 use Rattle.definition.specs.Cost.{cheaper}
 use Rattle.definition.specs.Search.{Plan, Leaf, Input, State, plan_at, find, is_some, kept, stopped, visit, candidate, memo_after, added, joined, attempt, start, search}
 use Rattle.definition.specs.Walk.{solve}
-use Rattle.definition.specs.WalkLaws.{solve_rel}
-use Rattle.definition.specs.MemoLaws.{some_inj, winner, memo_after_same, memo_after_other, leaf_plans-length, leaf_found}
+use Rattle.definition.proofs.WalkLaws.{solve_rel}
+use Rattle.definition.proofs.MemoLaws.{some_inj, winner, memo_after_same, memo_after_other, leaf_plans-length, leaf_found}
 use Rattle.store.specs.declared.Found.{Found}
 use Rattle.store.specs.declared.Found.TheVariants.{At, Nothing}
 use Rattle.store.specs.Counts.{counts}

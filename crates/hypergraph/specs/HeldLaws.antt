@@ -5,7 +5,7 @@ use Rattle.std.proofs.Common.{◌∙◌, take-append-drop}
 use mathlib.Core.List.{List, ◌++◌}
 use Rattle.std.proofs.Math.ListN.{get_or, drop}
 use Rattle.definition.specs.Lists.{column}
-use Rattle.definition.specs.ListLaws.{length-tabulate, tabulate_same, map-tabulate, tabulate-take}
+use Rattle.definition.proofs.ListLaws.{length-tabulate, tabulate_same, map-tabulate, tabulate-take}
 use Rattle.definition.specs.Hypergraph.{Edge}
 use Rattle.definition.specs.EdgeView.{edge_at, edges_of}
 use Rattle.builder.specs.Builds.{EdgeLists, edges_in, edges_held, pile_of, Behind, Added, Longer}

@@ -6,16 +6,16 @@ use mathlib.Core.List.{List, [], ◌∷◌}
 use Rattle.std.proofs.Math.ListN.{length, get_or}
 use Rattle.std.proofs.lemmas.Bool.{eqb-false}
 use Rattle.definition.specs.Lists.{concat_map}
-use Rattle.definition.specs.ListLaws.{length-tabulate}
+use Rattle.definition.proofs.ListLaws.{length-tabulate}
 use Rattle.definition.specs.Question.{Range, part, Question, OpenItem, OpenQuestion, cross_product, leaf, item, open_item, open_question, leaf_count, ends_with_one}
-use Rattle.definition.specs.QuestionLaws.{open_item_lem, counts-leaf, counts-join, finds_two, walk_items, length_open_items, length_open_predicates}
+use Rattle.definition.proofs.QuestionLaws.{open_item_lem, counts-leaf, counts-join, finds_two, walk_items, length_open_items, length_open_predicates}
 use Rattle.definition.specs.Sheet.{question_of}
 use Rattle.definition.specs.Accepted.{Sound}
 use Rattle.definition.specs.Tables.{type_of}
 use Rattle.definition.specs.Edges.{Build, Sides, JoinRecord, sides_for, join_item, cross_item, leaf_item, join, on_pile, build_item, build_from, empty_build, build_hypergraph, edge_count}
 use Rattle.definition.specs.Hypergraph.{Edge}
-use Rattle.definition.specs.EdgeCount.{JoinFits, join-height, item-height, item_count_lem}
-use Rattle.definition.specs.InputLaws.{sound_edges-counted}
+use Rattle.definition.proofs.EdgeCount.{JoinFits, join-height, item-height, item_count_lem}
+use Rattle.definition.proofs.InputLaws.{sound_edges-counted}
 use Rattle.ses.specs.View.{columns_at, Fit, Named}
 use Rattle.tes.specs.Views.{join_at, joins_of}
 use Rattle.builder.specs.Builds.{section, LeavesFit, Places, State, state, counted, pile_of, build_of, edges_in, edges_held, EdgeLists, with_leaf, Longer, Added, RoomFor}

@@ -8,7 +8,7 @@ use Rattle.std.proofs.Math.ListN.{get_or-map}
 use Rattle.std.proofs.Math.Seq.{append_snoc}
 use borrow.Author.Tests.{eq-eqb, ne_eqb}
 use Rattle.definition.specs.Lists.{tabulate}
-use Rattle.definition.specs.ListLaws.{tabulate_more}
+use Rattle.definition.proofs.ListLaws.{tabulate_more}
 use Rattle.definition.specs.Question.{Question, leaf, item}
 use Rattle.definition.specs.Search.{Leaf}
 use Rattle.definition.specs.Call.{leaves_of}

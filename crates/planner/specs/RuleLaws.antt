@@ -4,9 +4,9 @@ use Rattle.std.proofs.Common.{sym, ap, ap₂, ◌∙◌, subst}
 use Rattle.definition.specs.Sheet.{Bytes}
 use Rattle.definition.specs.Call.{Rooms, Outcome, accepted, leaves_in, call}
 use Rattle.definition.specs.OpenRule.{OpenListRule, SameOpenBytes, SelectivitiesFit, open_part}
-use Rattle.definition.specs.OpenRuleLaws.{open_list_rule}
+use Rattle.definition.proofs.OpenRuleLaws.{open_list_rule}
 use Rattle.definition.specs.PlanRule.{CallPlanRule, AllFinite}
-use Rattle.definition.specs.PlanRuleLaws.{plan_rule, call_finite, call-pairs}
+use Rattle.definition.proofs.PlanRuleLaws.{plan_rule, call_finite, call-pairs}
 use Rattle.answer.specs.declared.Report.{Report}
 use Rattle.answer.specs.Answers.{reported}
 use Rattle.run.specs.Lent.{Lent, rooms_in, holds}

@@ -2,7 +2,7 @@
 use Rattle.std.specs.Prelude.{◌≡◌, refl, List, [], ◌∷◌, ◌++◌, map, ℕ, zero, suc, ◌<◌, length, get_or}
 use Rattle.std.proofs.Common.{◌∙◌, arith, not-suc-le-zero, le_of_suc-le-suc, ext_get_or}
 use Rattle.definition.specs.Lists.{tabulate}
-use Rattle.definition.specs.ListLaws.{length-tabulate, get_d_tabulate}
+use Rattle.definition.proofs.ListLaws.{length-tabulate, get_d_tabulate}
 
 -- a field's list has each entry's field at the entry's place
 pub front : {A B : Type 0} (f : A → B) (xs : List A) (l : List B) (d : A) (e : B) (i : ℕ) → i < length xs → get_or (map f xs ++ l) i e ≡ f (get_or xs i d)

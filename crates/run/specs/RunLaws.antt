@@ -6,20 +6,20 @@ use Rattle.std.proofs.Common.{◌∙◌, arith, length-append}
 use Rattle.std.proofs.Math.ListN.{length-map, get_or-map}
 use Rattle.nodeset.specs.SubsetLaws.{All}
 use Rattle.definition.specs.Lists.{tabulate, column}
-use Rattle.definition.specs.ListLaws.{length-tabulate}
-use Rattle.definition.specs.AllLaws.{all_map, all_mapped}
+use Rattle.definition.proofs.ListLaws.{length-tabulate}
+use Rattle.definition.proofs.AllLaws.{all_map, all_mapped}
 use Rattle.definition.specs.Question.{Item, Predicate, open_question}
 use Rattle.definition.specs.Sheet.{sheet_answer, question_of}
-use Rattle.definition.specs.SheetLaws.{accepted}
+use Rattle.definition.proofs.SheetLaws.{accepted}
 use Rattle.definition.specs.Accepted.{Sound}
 use Rattle.definition.specs.Hypergraph.{Edge, Sided, no_edge}
 use Rattle.definition.specs.EdgeView.{edge_at, edges_of}
 use Rattle.definition.specs.Edges.{build_hypergraph, edge_count}
-use Rattle.definition.specs.EdgeLaws.{edges_sided}
-use Rattle.definition.specs.UntypedEdges.{untyped, untyped_input, search-untyped}
+use Rattle.definition.proofs.EdgeLaws.{edges_sided}
+use Rattle.definition.proofs.UntypedEdges.{untyped, untyped_input, search-untyped}
 use Rattle.definition.specs.LeafView.{leaf_at, leaves_from}
 use Rattle.definition.specs.Question as question
-use Rattle.definition.specs.InputLaws.{leaves-counted, sound_edges-counted}
+use Rattle.definition.proofs.InputLaws.{leaves-counted, sound_edges-counted}
 use Rattle.definition.specs.Search.{Leaf, Input, State, search, complete, ending, chosen_plan}
 use Rattle.definition.specs.Call.{Rooms, store_length, leaves_of, input_of, searched, leaves_in}
 use Rattle.sheet.specs.Views.{Placed}

@@ -4,7 +4,7 @@ use Rattle.std.proofs.Math.Option.{Option, none, some}
 use Rattle.std.proofs.Common.{eq-eqb, ne_eqb}
 use Rattle.definition.specs.Answers.{plans_full, memo_full, visits_spent}
 use Rattle.definition.specs.Search.{ending, chosen_plan}
-use Rattle.definition.specs.StopLaws.{Stop, goes_on, plans-full, memo_full_lem, visits_spent_lem}
+use Rattle.definition.proofs.StopLaws.{Stop, goes_on, plans-full, memo_full_lem, visits_spent_lem}
 use Rattle.store.specs.declared.Kept.{Kept}
 use Rattle.held.specs.MemoHeld.{to_kept}
 use Rattle.search.specs.declared.Ending.TheVariants.{PlansFull, MemoFull, VisitsSpent}

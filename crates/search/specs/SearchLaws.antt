@@ -7,9 +7,9 @@ use Rattle.std.proofs.Math.ListN.{drop}
 use Rattle.nodeset.specs.Sets.{all_below}
 use Rattle.definition.specs.Cost.{Estimate, leaf_estimate}
 use Rattle.definition.specs.Hypergraph.{none32}
-use Rattle.definition.specs.ListLaws.{length-tabulate, tabulate-at, tabulate_end}
+use Rattle.definition.proofs.ListLaws.{length-tabulate, tabulate-at, tabulate_end}
 use Rattle.definition.specs.Search.{Leaf, Input, search, find}
-use Rattle.definition.specs.StopLaws.{search_stop}
+use Rattle.definition.proofs.StopLaws.{search_stop}
 use Rattle.store.specs.declared.DPhyp.{DPhyp}
 use Rattle.store.specs.Counts.{counts}
 use Rattle.candidate.specs.Store.{Given, Lists, Store, store, plan_for, leaf_written}

@@ -4,7 +4,7 @@ use Rattle.std.proofs.Common.{sym, ap, ◌∙◌, arith}
 use Rattle.definition.specs.Question.{Item, Predicate, item, predicate}
 use Rattle.definition.specs.Sheet.{word, range, item_offset, item_count, predicate_count, question_of, sheet_answer}
 use Rattle.definition.specs.Accepted.{Framed}
-use Rattle.definition.specs.SheetLaws.{accepted, item_is, predicate_is, column_is}
+use Rattle.definition.proofs.SheetLaws.{accepted, item_is, predicate_is, column_is}
 use Rattle.sheet.specs.Views.{sections_of, Placed}
 use Rattle.sheet.specs.declared.Sections.{Sections}
 

@@ -3,7 +3,7 @@ use Rattle.std.specs.Prelude.{◌≡◌, Bool, true, false, List, map, ℕ, suc,
 use Rattle.std.proofs.Common.{ap, ap₂, ◌∙◌, add-one, arith, drop_of_length-le}
 use Rattle.std.proofs.Math.ListN.{length}
 use Rattle.std.specs.Int.Bits.{bit_or}
-use Rattle.definition.specs.ListLaws.{length-tabulate, tabulate-at, map-tabulate, tabulate-take}
+use Rattle.definition.proofs.ListLaws.{length-tabulate, tabulate-at, map-tabulate, tabulate-take}
 use Rattle.definition.specs.Hypergraph.{Edge}
 use Rattle.definition.specs.Connected.{connected}
 use Rattle.definition.specs.Edges.{Sides, JoinRecord, linked, gained, widen}

@@ -11,10 +11,10 @@ use Rattle.definition.specs.Search.{Plan, Pair, Input}
 use Rattle.definition.specs.Kept.{Candidates}
 use Rattle.definition.specs.Call.{Rooms, Outcome, store_length, default_limit, refused_with, leaves_in, input_of, call}
 use Rattle.definition.specs.PlanRule.{pair_in, pairs_in}
-use Rattle.definition.specs.PlanRuleLaws.{plan_rule, call-pairs}
-use Rattle.definition.specs.OpenRuleLaws.{open_list_rule}
+use Rattle.definition.proofs.PlanRuleLaws.{plan_rule, call-pairs}
+use Rattle.definition.proofs.OpenRuleLaws.{open_list_rule}
 use Rattle.definition.specs.OpenRule.{OpenPart}
-use Rattle.definition.specs.InputLaws.{leaves-counted}
+use Rattle.definition.proofs.InputLaws.{leaves-counted}
 use Rattle.definition.specs.TriedList.{tried_list}
 use Rattle.listing.specs.Text.{pairs_of}
 use Rattle.listing.specs.TextLaws.{head_bound, lines_bound, text_length}

@@ -6,7 +6,7 @@ use lib.ListN.{get_or}
 use Rattle.definition.specs.Hypergraph.{connects}
 use Rattle.definition.specs.Connection.{Connection}
 use Rattle.definition.specs.EdgeView.{edge_at}
-use Rattle.definition.specs.EdgeWalkLaws.{from, from_start, from-edge, from_other, from_end}
+use Rattle.definition.proofs.EdgeWalkLaws.{from, from_start, from-edge, from_other, from_end}
 use Rattle.cost.specs.View.{connection_of}
 use Rattle.cost.specs.declared.Connection as declared
 use Rattle.cost.proofs.connect.Goals as goal

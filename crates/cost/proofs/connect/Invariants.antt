@@ -3,7 +3,7 @@ use mathlib.Core.List.{List}
 use Prim.Native.Nat.{ℕ, ◌-◌, ◌≤◌}
 use Rattle.definition.specs.Connection.{connection}
 use Rattle.definition.specs.EdgeView.{edges_of}
-use Rattle.definition.specs.EdgeWalkLaws.{from}
+use Rattle.definition.proofs.EdgeWalkLaws.{from}
 use Rattle.cost.specs.View.{connection_of}
 use Rattle.cost.proofs.connect.Given as goal
 

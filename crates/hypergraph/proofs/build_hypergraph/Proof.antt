@@ -5,7 +5,7 @@ use Rattle.hypergraph.specs.Walk.{Along}
 use Rattle.joins.specs.Laws.{added_none, added_more, longer_less}
 use Rattle.builder.specs.Builds.{edge_lists, state, build_of, pile_of, Added}
 use Rattle.tes.specs.Views.{joins_of}
-use Rattle.definition.specs.SheetLaws.{length_items}
+use Rattle.definition.proofs.SheetLaws.{length_items}
 use Rattle.definition.specs.EdgeView.{edges_of}
 use Rattle.definition.specs.Edges.{empty_build}
 use Rattle.definition.specs.Lists.{tabulate}

@@ -6,7 +6,7 @@ use native.Mathlib.Omega.{arith}
 use lib.ListN.{length, drop}
 use Rattle.definition.specs.Question.{open_question}
 use Rattle.definition.specs.Sheet.{question_of}
-use Rattle.definition.specs.SheetLaws.{length_items}
+use Rattle.definition.proofs.SheetLaws.{length_items}
 use Rattle.definition.specs.Edges.{edge_count}
 use Rattle.hypergraph.specs.WalkLaws.{edges_step, edges_done}
 

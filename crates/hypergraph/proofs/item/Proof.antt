@@ -7,7 +7,7 @@ use Rattle.joins.specs.Laws.{added_none, added_to, longer_less, fits_same}
 use Rattle.builder.specs.declared.HypergraphBuilder.{HypergraphBuilder}
 use Rattle.builder.specs.Builds.{edge_lists, state, build_of}
 use Rattle.sheet.specs.Views.{range_of}
-use Rattle.definition.specs.SheetLaws.{length_items}
+use Rattle.definition.proofs.SheetLaws.{length_items}
 use Rattle.definition.specs.Sheet.{question_of}
 use Rattle.definition.specs.Question.{Range, leaf, item, open_item, open_question}
 use lib.ListN.{length}

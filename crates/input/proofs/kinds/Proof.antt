@@ -7,7 +7,7 @@ use native.Mathlib.Omega.{arith}
 use lib.ListN.{length, take, length-set, length-map}
 use Rattle.definition.specs.Question.{Item}
 use Rattle.definition.specs.Sheet.{question_of}
-use Rattle.definition.specs.SheetLaws.{length_items}
+use Rattle.definition.proofs.SheetLaws.{length_items}
 use Rattle.input.specs.Laws.{take_all, filled}
 
 abbrev invariant-loop : tie.invariant-loop

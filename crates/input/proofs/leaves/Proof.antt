@@ -7,7 +7,7 @@ use native.Mathlib.Omega.{arith}
 use lib.ListN.{drop}
 use Rattle.definition.specs.Question.{open_question, leaf_count}
 use Rattle.definition.specs.Sheet.{question_of}
-use Rattle.definition.specs.SheetLaws.{length_items}
+use Rattle.definition.proofs.SheetLaws.{length_items}
 use Rattle.definition.specs.Search.{Leaf}
 use Rattle.definition.specs.Call.{leaves_of}
 use Rattle.definition.specs.Lists.{tabulate}

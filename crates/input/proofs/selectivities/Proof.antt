@@ -7,7 +7,7 @@ use native.Mathlib.Omega.{arith}
 use lib.ListN.{length, take, length-set, length-map}
 use Rattle.definition.specs.Question.{Predicate}
 use Rattle.definition.specs.Sheet.{question_of}
-use Rattle.definition.specs.SheetLaws.{length_predicates}
+use Rattle.definition.proofs.SheetLaws.{length_predicates}
 use Rattle.input.specs.Laws.{take_all, filled}
 
 abbrev invariant-loop : tie.invariant-loop

@@ -7,9 +7,9 @@ use Prim.Native.Nat.{ℕ, ◌+◌, ◌<◌}
 use native.Mathlib.Omega.{arith}
 use lib.ListN.{length}
 use Rattle.definition.specs.Question.{Range, item, leaf}
-use Rattle.definition.specs.QuestionLaws.{counts-leaf, counts-join}
+use Rattle.definition.proofs.QuestionLaws.{counts-leaf, counts-join}
 use Rattle.definition.specs.Sheet.{question_of}
-use Rattle.definition.specs.SheetLaws.{length_items}
+use Rattle.definition.proofs.SheetLaws.{length_items}
 use Rattle.definition.specs.Search.{Leaf}
 use Rattle.input.specs.View.{leaves_in}
 use Rattle.input.specs.Laws.{leaf_more, leaves_on, leaves_past}

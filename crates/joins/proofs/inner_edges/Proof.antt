@@ -6,9 +6,9 @@ use Rattle.builder.specs.declared.HypergraphBuilder.{HypergraphBuilder}
 use Rattle.builder.specs.Builds.{edge_lists, state, more_edges, build_of, Longer, Added}
 use Rattle.tes.specs.Views.{sides_of}
 use Rattle.definition.specs.Edges.{edge_of, inner_edges}
-use Rattle.definition.specs.SheetLaws.{length_predicates}
+use Rattle.definition.proofs.SheetLaws.{length_predicates}
 use Rattle.definition.specs.Sheet.{question_of}
-use Rattle.definition.specs.QuestionLaws.{length_open_predicates}
+use Rattle.definition.proofs.QuestionLaws.{length_open_predicates}
 use Rattle.definition.specs.Question.{open_question}
 use native.Mathlib.Omega.{arith}
 use Prim.Native.Nat.{ℕ, ◌+◌, ◌-◌, ◌≤◌}

@@ -5,9 +5,9 @@ use Rattle.joins.specs.JoinLaws.{by_inner, by_other}
 use Rattle.builder.specs.Builds.{edge_lists, state, build_of}
 use Rattle.tes.specs.Views.{sides_of}
 use Rattle.sheet.specs.Views.{range_of}
-use Rattle.definition.specs.SheetLaws.{length_predicates}
+use Rattle.definition.proofs.SheetLaws.{length_predicates}
 use Rattle.definition.specs.Sheet.{question_of}
-use Rattle.definition.specs.QuestionLaws.{part_length, length_open_predicates}
+use Rattle.definition.proofs.QuestionLaws.{part_length, length_open_predicates}
 use Rattle.definition.specs.Question.{open_question}
 use native.Mathlib.Omega.{arith}
 

@@ -1,6 +1,6 @@
 use borrow.Author.Rules.{rules}
 use Rattle.definition.specs.Call.{default_limit}
-use Rattle.definition.specs.PlanRuleLaws.{plan_rule}
+use Rattle.definition.proofs.PlanRuleLaws.{plan_rule}
 use Rattle.tried_text.specs.Printed.{list_rooms}
 use Rattle.tried_text.proofs.tried_text.Statement.{statement}
 use Rattle.tried_text.proofs.tried_text.Tie as tie

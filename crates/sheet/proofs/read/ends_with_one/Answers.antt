@@ -5,8 +5,8 @@ use mathlib.Core.Bool.{Bool}
 use lib.ListN.{length, drop}
 use Rattle.definition.specs.Question.{open_question, ends_with_one}
 use Rattle.definition.specs.Sheet.{question_of}
-use Rattle.definition.specs.QuestionLaws.{puts_leaf, takes_join, finds_few, ends}
-use Rattle.definition.specs.SheetLaws.{length_items}
+use Rattle.definition.proofs.QuestionLaws.{puts_leaf, takes_join, finds_few, ends}
+use Rattle.definition.proofs.SheetLaws.{length_items}
 use Rattle.sheet.proofs.read.ends_with_one.Goals as goal
 use Rattle.sheet.proofs.read.ends_with_one.Goals.{then-item_kind-eq9, else-item_kind-eq9+else-height-lt2}
 

@@ -1,8 +1,8 @@
 use mathlib.Core.Path.{sym, ◌∙◌}
 use native.Mathlib.Omega.{arith}
 use Rattle.definition.specs.Sheet.{question_of}
-use Rattle.definition.specs.QuestionLaws.{walk_empty, walk_items}
-use Rattle.definition.specs.SheetLaws.{length_items}
+use Rattle.definition.proofs.QuestionLaws.{walk_empty, walk_items}
+use Rattle.definition.proofs.SheetLaws.{length_items}
 use Rattle.sheet.proofs.read.is_walk.Goals as goal
 
 pub returns-then-s-eq0 : goal.returns-then-s-eq0

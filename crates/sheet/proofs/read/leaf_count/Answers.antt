@@ -3,8 +3,8 @@ use native.Mathlib.Omega.{arith}
 use Prim.Native.Nat.{◌<◌}
 use lib.ListN.{length}
 use Rattle.definition.specs.Sheet.{question_of}
-use Rattle.definition.specs.QuestionLaws.{counts-leaf, counts-join, counts_none}
-use Rattle.definition.specs.SheetLaws.{length_items}
+use Rattle.definition.proofs.QuestionLaws.{counts-leaf, counts-join, counts_none}
+use Rattle.definition.proofs.SheetLaws.{length_items}
 use Rattle.sheet.proofs.read.leaf_count.Goals as goal
 use Rattle.sheet.proofs.read.leaf_count.Goals.{then-item_kind-eq9, else-item_kind-eq9}
 

@@ -11,7 +11,7 @@ use Rattle.definition.specs.Lists.{concat_map}
 use Rattle.definition.specs.Question.{fits, Item, Predicate, Question, cross_product, leaf, open_question, leaf_count, is_walk, item, predicate}
 use Rattle.definition.specs.Sheet.{Bytes, word, item_count, item_offset, predicate_count, predicate_offset, column_count, column_offset, item_at, predicate_at, column_at, question_of, Check, check, first_failing, header_checks, reserved_is_set, table_length, item_checks, predicate_checks, walk_checks, question_answer, sheet_answer}
 use Rattle.definition.specs.Accepted.{Framed, Sound, AcceptedSheet}
-use Rattle.definition.specs.ListLaws.{length-tabulate, get_d_tabulate}
+use Rattle.definition.proofs.ListLaws.{length-tabulate, get_d_tabulate}
 
 -- ---- the fields of a question that comes in bytes
 

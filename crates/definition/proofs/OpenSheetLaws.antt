@@ -11,8 +11,8 @@ use Rattle.definition.specs.Lists.{tabulate, concat_map}
 use Rattle.definition.specs.Question.{Range, fits, Item, Predicate, Question, OpenItem, OpenQuestion, cross_product, leaf, open_item, open_question, leaf_count, is_walk}
 use Rattle.definition.specs.Sheet.{word, item_count, predicate_count, column_count, column_offset, item_start, rows_at, selectivity_at, range, item_at, predicate_at, column_at, question_of, Check, check, first_failing, reserved_is_set, item_checks, predicate_checks, question_answer, sheet_answer}
 use Rattle.definition.specs.Accepted.{Framed, AcceptedSheet}
-use Rattle.definition.specs.ListLaws.{tabulate_same, map-tabulate, concat_same}
-use Rattle.definition.specs.SheetLaws.{length_predicates, length_columns, predicate_is, header_answer}
+use Rattle.definition.proofs.ListLaws.{tabulate_same, map-tabulate, concat_same}
+use Rattle.definition.proofs.SheetLaws.{length_predicates, length_columns, predicate_is, header_answer}
 use Rattle.definition.specs.OpenRule.{InWord, Confidential, in_rows, in_selectivity, SameOpenBytes, SelectivitiesFit}
 
 -- ---- word by word

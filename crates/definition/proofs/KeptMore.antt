@@ -5,10 +5,10 @@ use Rattle.std.proofs.Math.ListN.{get_or-append}
 use Rattle.std.proofs.lemmas.List.{get_or_at, take-append-le}
 use Rattle.std.proofs.Math.Seq.{get_or-append_seam}
 use Rattle.definition.specs.EstimateOrder.{Earliest, AtLeast, MoreThan}
-use Rattle.definition.specs.EstimateOrderLaws.{earliest_same, earliest_skip, earliest_keep, earliest_last, earliest_replace}
+use Rattle.definition.proofs.EstimateOrderLaws.{earliest_same, earliest_skip, earliest_keep, earliest_last, earliest_replace}
 use Rattle.definition.specs.Search.{Plan, Pair, Input, absent}
 use Rattle.definition.specs.Kept.{plan_of, pair_of, estimate_of, union, made_for, Several, KeptAfter, single, larger, Qualifies, Made, Candidates}
-use Rattle.definition.specs.KeptLaws.{kept_below, single_not_several}
+use Rattle.definition.proofs.KeptLaws.{kept_below, single_not_several}
 
 pub length_more : {A : Type 0} (l : List A) (x : A) → length (l ++ (x ∷ [])) ≡ suc (length l)
 length_more l x = length-append l (x ∷ []) ∙ add-one (length l)

@@ -16,10 +16,10 @@ use Rattle.nodeset.specs.SetLaws.{all_below_is}
 use Rattle.nodeset.specs.SubsetLaws.{All}
 use Rattle.definition.specs.Lists.{concat_map}
 use Rattle.definition.specs.Question.{Range, part, OpenItem, OpenQuestion, inner, cross_product, leaf, leaf_count, ends_with_one, is_walk}
-use Rattle.definition.specs.QuestionLaws.{part_length}
+use Rattle.definition.proofs.QuestionLaws.{part_length}
 use Rattle.definition.specs.Tables.{type_of}
 use Rattle.definition.specs.Edges.{Sides, Build, sides_for, inner_edges, other_edges, join_item, cross_item, leaf_item, join, on_pile, build_item, build_from, empty_build, build_hypergraph, edge_count}
-use Rattle.definition.specs.EdgeLaws.{union_of, build_reached}
+use Rattle.definition.proofs.EdgeLaws.{union_of, build_reached}
 
 abbrev height : Build → ℕ
 height b = length b.pile

@@ -7,7 +7,7 @@ use Rattle.std.specs.Float.Ieee.{mul, add, div, lt, of_int}
 use Rattle.definition.specs.Hypergraph.{Edge, none32, connecting_from, any_predicate, selectivities_of}
 use Rattle.definition.specs.Cost.{Estimate, whole, filtered, capped, candidate_rows, candidate_cost, candidate_from}
 use Rattle.definition.specs.Connection.{connection}
-use Rattle.definition.specs.EstimateOrderLaws.{kept}
+use Rattle.definition.proofs.EstimateOrderLaws.{kept}
 use Rattle.definition.specs.EstimateBounds.{JoinTree, scan, join, tree_estimate}
 
 -- three leaves in a row, s between the first two and t between the last two: the candidates in document 01's order

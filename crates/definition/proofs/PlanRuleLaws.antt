@@ -7,13 +7,13 @@ use Prim.Native.Nat.{ℕ, zero, suc, zero-le}
 use Rattle.nodeset.specs.Sets.{all_below}
 use Rattle.definition.specs.Sheet.{Bytes, question_of, sheet_answer}
 use Rattle.definition.specs.Accepted.{AcceptedSheet}
-use Rattle.definition.specs.SheetLaws.{accepted as sheet-accepted}
+use Rattle.definition.proofs.SheetLaws.{accepted as sheet-accepted}
 use Rattle.definition.specs.Search.{Input}
 use Rattle.definition.specs.Call.{Rooms, Outcome, refused_with, accepted, refusal, leaves_in, input_of, searched, call}
 use Rattle.definition.specs.Kept.{KeptAfter}
 use Rattle.definition.specs.PlanRule.{WithinLimits, pair_in, pairs_in, CallPlanRule, AllFinite}
-use Rattle.definition.specs.InputLaws.{leaves-counted, accepted_limits}
-use Rattle.definition.specs.KeptSearch.{searched_rule, searched-pairs, chosen_kept}
+use Rattle.definition.proofs.InputLaws.{leaves-counted, accepted_limits}
+use Rattle.definition.proofs.KeptSearch.{searched_rule, searched-pairs, chosen_kept}
 
 -- ---- accepted calls
 

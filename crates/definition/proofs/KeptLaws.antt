@@ -15,10 +15,10 @@ use Rattle.nodeset.specs.Sets.{bit, singleton}
 use Rattle.nodeset.specs.SetLaws.{Apart, bit-lt, bit-or, bit_one, bit_one_other, bit_one_cases, bit_empty, singleton_is, singleton_none}
 use Rattle.nodeset.specs.SubsetLaws.{All}
 use Rattle.definition.specs.Hypergraph.{Edge, connects, connecting_from}
-use Rattle.definition.specs.EstimateOrderLaws.{kept, earliest_unique, KeepsEarliest, kept_earliest}
+use Rattle.definition.proofs.EstimateOrderLaws.{kept, earliest_unique, KeepsEarliest, kept_earliest}
 use Rattle.definition.specs.EstimateBounds.{Bounded}
-use Rattle.definition.specs.EstimateBoundsLaws.{leaf_bounded, candidate_bounded, selectivities_of_lem}
-use Rattle.definition.specs.Depth.{ones_or}
+use Rattle.definition.proofs.EstimateBoundsLaws.{leaf_bounded, candidate_bounded, selectivities_of_lem}
+use Rattle.definition.proofs.Depth.{ones_or}
 use Rattle.definition.specs.Search.{Leaf, Plan, Pair, Input, absent, leaf_plans}
 use Rattle.definition.specs.Kept.{plan_of, pair_of, estimate_of, union, made_for, Several, KeptAfter, single, larger, EdgeBetween, Candidates, Meets, occurs, JoinsOnce, EdgeAtEachJoin}
 use Rattle.definition.specs.PlanRule.{WithinLimits, Finite, pair_in, pairs_in}

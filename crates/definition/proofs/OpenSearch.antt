@@ -17,9 +17,9 @@ use Rattle.definition.specs.Lists.{member}
 use Rattle.definition.specs.Answers.{plans_full, memo_full, visits_spent}
 use Rattle.definition.specs.Hypergraph.{Edge, connecting}
 use Rattle.definition.specs.Walk.{solve}
-use Rattle.definition.specs.WalkLaws.{Sided, elim_rel, solve_rel}
-pub use Rattle.definition.specs.MemoLaws.{sets_of}
-use Rattle.definition.specs.MemoLaws.{find-member, sets-memo_after, leaf_plans-length}
+use Rattle.definition.proofs.WalkLaws.{Sided, elim_rel, solve_rel}
+pub use Rattle.definition.proofs.MemoLaws.{sets_of}
+use Rattle.definition.proofs.MemoLaws.{find-member, sets-memo_after, leaf_plans-length}
 use Rattle.definition.specs.Search.{Leaf, Plan, Entry, Pair, Input, State, find, is_some, kept, stopped, visit, added, stored, joined, candidate, attempt, leaf_entries, start, search, complete, ending}
 
 -- two inputs that differ at most in row counts, column counts of leaves, kinds and selectivities

@@ -6,7 +6,7 @@ use Rattle.nodeset.specs.SubsetLaws.{All}
 use Rattle.definition.specs.Answers.{plans_full, memo_full, visits_spent}
 use Rattle.definition.specs.Hypergraph.{Sided, connecting}
 use Rattle.definition.specs.Search.{Input, State, find, kept, visit, joined, attempt, start, search}
-use Rattle.definition.specs.WalkLaws.{solve_keeps}
+use Rattle.definition.proofs.WalkLaws.{solve_keeps}
 
 pub data Stop (n : ℕ) : Type 0 where
   goes_on : n ≡ 0 → Stop n

@@ -7,7 +7,7 @@ use Rattle.definition.specs.Lists.{concat_map}
 use Rattle.definition.specs.Search.{Pair}
 use Rattle.definition.specs.Call.{default_limit}
 use Rattle.definition.specs.TriedList.{decimal_digits, decimal, hex_digits, line, tried_lines, tried_list}
-use Rattle.definition.specs.DocumentSamples.{computed, ample, pair, sheet_a, no_items}
+use Rattle.definition.proofs.DocumentSamples.{computed, ample, pair, sheet_a, no_items}
 
 pub record Sample : Type 0 where
   pub printed : List ℕ

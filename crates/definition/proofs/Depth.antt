@@ -18,7 +18,7 @@ use Rattle.nodeset.specs.SubsetLaws.{All, subsets_in, subsets_within}
 use Rattle.nodeset.specs.SingletonLaws.{singletons_in}
 use Rattle.definition.specs.Hypergraph.{Edge, beyond, neighborhood}
 use Rattle.definition.specs.Walk.{each, try_connected, enumerate_cmp_rec, emit_csg, emit_kept, enumerate_csg_rec, solve_from, solve}
-use Rattle.definition.specs.WalkLaws.{Sided, neighborhood_apart, neighborhood-set}
+use Rattle.definition.proofs.WalkLaws.{Sided, neighborhood_apart, neighborhood-set}
 
 -- ---- how many leaves a set has
 

@@ -4,9 +4,9 @@ use Rattle.std.specs.Prelude.{◌≡◌, refl, Bool, true, false, List, [], ◌�
 use Rattle.std.proofs.Common.{sym, ap, subst, le_trans, le_of_eq, arith, eqb-true}
 use Rattle.nodeset.specs.SubsetLaws.{All}
 use Rattle.definition.specs.Question.{Item, Predicate, Question, leaf, item, open_item, open_question, leaf_count}
-use Rattle.definition.specs.QuestionLaws.{length_open_predicates}
+use Rattle.definition.proofs.QuestionLaws.{length_open_predicates}
 use Rattle.definition.specs.Sheet.{Bytes, rows_at, question_of}
-use Rattle.definition.specs.SheetLaws.{length_items, item_is, word_bound}
+use Rattle.definition.proofs.SheetLaws.{length_items, item_is, word_bound}
 use Rattle.definition.specs.Accepted.{Sound, AcceptedSheet}
 use Rattle.definition.specs.GoodEdge.{GoodEdge}
 use Rattle.definition.specs.Edges.{build_hypergraph, edge_count}
@@ -14,9 +14,9 @@ use Rattle.definition.specs.EstimateBounds.{Selectivities}
 use Rattle.definition.specs.Search.{Leaf}
 use Rattle.definition.specs.Call.{Rooms, leaves_of, input_of}
 use Rattle.definition.specs.PlanRule.{WithinLimits}
-use Rattle.definition.specs.AllLaws.{all_of, all_mapped}
-use Rattle.definition.specs.EdgeLaws.{good_edges, edges_sided}
-use Rattle.definition.specs.EdgeCount.{JoinFits, edges-counted}
+use Rattle.definition.proofs.AllLaws.{all_of, all_mapped}
+use Rattle.definition.proofs.EdgeLaws.{good_edges, edges_sided}
+use Rattle.definition.proofs.EdgeCount.{JoinFits, edges-counted}
 
 -- the leaves handed over are the walk's
 pub leaves-counted : (is : List Item) → length (leaves_of is) ≡ leaf_count (map open_item is)

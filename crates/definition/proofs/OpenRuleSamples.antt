@@ -9,10 +9,10 @@ use Rattle.definition.specs.Sheet.{Bytes, question_of}
 use Rattle.definition.specs.Call.{default_limit, accepted, input_of, call}
 use Rattle.definition.specs.PlanRule.{WellKept}
 use Rattle.definition.specs.OpenRule.{OpenPart, open_part, Confidential, in_rows, in_selectivity, SameOpenBytes, SelectivitiesFit}
-use Rattle.definition.specs.OpenRuleLaws.{open_list_rule}
-use Rattle.definition.specs.PlanRuleLaws.{plan_rule}
-use Rattle.definition.specs.PlanRuleSamples.{three}
-use Rattle.definition.specs.DocumentSamples.{computed, bytes, ample, edge, pair, sheet_a}
+use Rattle.definition.proofs.OpenRuleLaws.{open_list_rule}
+use Rattle.definition.proofs.PlanRuleLaws.{plan_rule}
+use Rattle.definition.proofs.PlanRuleSamples.{three}
+use Rattle.definition.proofs.DocumentSamples.{computed, bytes, ample, edge, pair, sheet_a}
 
 -- "Sheet A" with rows 16, 8, 4 and shares 16384, 32768
 abbrev other_numbers : List ℕ

@@ -11,10 +11,10 @@ use Rattle.definition.specs.Edges.{build_hypergraph, edge_count}
 use Rattle.definition.specs.Search.{Input, search}
 use Rattle.definition.specs.Call.{Rooms, refused_with, accepted, leaves_in, input_of, searched, call}
 use Rattle.definition.specs.OpenRule.{open_part, SameOpenBytes, SelectivitiesFit, OpenListRule}
-use Rattle.definition.specs.OpenSearch.{SameForm, search_same, answer_same, memo_length}
-use Rattle.definition.specs.InputLaws.{leaves-counted}
-use Rattle.definition.specs.PlanRuleLaws.{accepted-call, call-searched, call_limits, call-pairs}
-use Rattle.definition.specs.OpenSheetLaws.{question_same, sheet_answer_same}
+use Rattle.definition.proofs.OpenSearch.{SameForm, search_same, answer_same, memo_length}
+use Rattle.definition.proofs.InputLaws.{leaves-counted}
+use Rattle.definition.proofs.PlanRuleLaws.{accepted-call, call-searched, call_limits, call-pairs}
+use Rattle.definition.proofs.OpenSheetLaws.{question_same, sheet_answer_same}
 
 module _ (bs cs : List ℕ) (rooms : Rooms) (a : accepted bs rooms ≡ true) (s : SameOpenBytes bs cs) (fit : SelectivitiesFit cs) where
   pub same_question : open_question (question_of bs) ≡ open_question (question_of cs)

@@ -1,7 +1,7 @@
 -- Laws of EdgeView.antt: one edge of the view, the edges from one on, and the end. Assumes nothing.
 use Rattle.std.specs.Prelude.{◌≡◌, refl, List, [], ◌∷◌, ℕ, zero, suc, ◌+◌, ◌≤◌, ◌<◌, length, get_or, drop}
 use Rattle.std.proofs.Common.{sym, ap, ◌∙◌, add-one, arith, drop_of_length-le}
-use Rattle.definition.specs.ListLaws.{length-tabulate, tabulate-at}
+use Rattle.definition.proofs.ListLaws.{length-tabulate, tabulate-at}
 use Rattle.definition.specs.Hypergraph.{Edge}
 use Rattle.definition.specs.EdgeView.{edge_at, edges_of}
 

@@ -13,15 +13,15 @@ use Rattle.std.proofs.lemmas.Nat.{and_comm, or_lt, and_le_l, and_le_r}
 use Rattle.nodeset.specs.Sets.{bit, disjoint, singleton, lowest, Apart, In}
 use Rattle.nodeset.specs.SetLaws.{bit-lt, bit_empty, bit_one_cases, singleton_is, lowest_of, apart_disjoint}
 use Rattle.nodeset.specs.SubsetLaws.{All}
-use Rattle.definition.specs.ListLaws.{length-tabulate, get_d_tabulate}
+use Rattle.definition.proofs.ListLaws.{length-tabulate, get_d_tabulate}
 use Rattle.definition.specs.Question.{OpenItem, OpenQuestion, leaf, leaf_count}
 use Rattle.definition.specs.Tables.{assoc, l_asscom, r_asscom}
 use Rattle.definition.specs.Hypergraph.{Edge}
 use Rattle.definition.specs.Connected.{own_classes, one_class, met, merge, merges, round, rounds, connected}
 use Rattle.definition.specs.Edges.{JoinRecord, Sides, Build, side_set, linked, gained, inside, widened_left, widened_right, widen, sides_for, join, build_from, empty_build}
-use Rattle.definition.specs.Settled.{sub_of, sub_trans, sub-or_l, sub-or_r, or-sub}
-use Rattle.definition.specs.AllLaws.{all_map, all_of, all_get, all_mapped}
-use Rattle.definition.specs.EdgeLaws.{apart_parts, apart_or, apart_sym, not_empty, LiesIn, Working, Piled, from_reached, empty_reached}
+use Rattle.definition.proofs.Settled.{sub_of, sub_trans, sub-or_l, sub-or_r, or-sub}
+use Rattle.definition.proofs.AllLaws.{all_map, all_of, all_get, all_mapped}
+use Rattle.definition.proofs.EdgeLaws.{apart_parts, apart_or, apart_sym, not_empty, LiesIn, Working, Piled, from_reached, empty_reached}
 
 -- ---- classes of which each lies on one side of a border, C or D, stay so when a set that lies on one side is merged
 

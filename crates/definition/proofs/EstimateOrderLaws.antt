@@ -6,7 +6,7 @@ use Rattle.std.proofs.Math.Option.{Option, none, some}
 use Rattle.std.proofs.Math.Nat.{le-suc}
 use Rattle.std.specs.Float.Ieee.{lt}
 use Rattle.std.specs.Float.Ieee.Positive.{num, den, den_pos, through}
-use Rattle.definition.specs.FloatLaws.{lt_is}
+use Rattle.definition.proofs.FloatLaws.{lt_is}
 use Rattle.definition.specs.Cost.{Estimate, cheaper}
 use Rattle.definition.specs.EstimateOrder.{NonNegative, AtLeast, MoreThan, StrictWeakOrder, Earliest}
 

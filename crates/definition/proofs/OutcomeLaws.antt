@@ -12,10 +12,10 @@ use Rattle.definition.specs.Sheet.{Check, first_failing, header_checks, item_che
 use Rattle.definition.specs.Hypergraph.{Sided}
 use Rattle.definition.specs.Search.{Input, search, complete, ending}
 use Rattle.definition.specs.Call.{Rooms, Outcome, edge_checks, store_checks, refused_with, accepted, refusal, input_of, searched, call}
-use Rattle.definition.specs.AllLaws.{all_both, all_concat}
-use Rattle.definition.specs.EdgeLaws.{edges_sided}
-use Rattle.definition.specs.StopLaws.{Stop, goes_on, plans-full, memo_full_lem, visits_spent_lem, search_stop}
-use Rattle.definition.specs.PlanRuleLaws.{accepted-call, call-searched}
+use Rattle.definition.proofs.AllLaws.{all_both, all_concat}
+use Rattle.definition.proofs.EdgeLaws.{edges_sided}
+use Rattle.definition.proofs.StopLaws.{Stop, goes_on, plans-full, memo_full_lem, visits_spent_lem, search_stop}
+use Rattle.definition.proofs.PlanRuleLaws.{accepted-call, call-searched}
 
 -- the numbers that end a search: 0, and 12 to 15
 abbrev pub is_ending : ℕ → Bool

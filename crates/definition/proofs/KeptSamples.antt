@@ -6,7 +6,7 @@ use Rattle.nodeset.specs.Sets.{bit}
 use Rattle.definition.specs.Hypergraph.{Edge, no_edge, connects}
 use Rattle.definition.specs.Search.{Plan, absent}
 use Rattle.definition.specs.Kept.{EdgeBetween, Meets, occurs, JoinsOnce, EdgeAtEachJoin}
-use Rattle.definition.specs.KeptLaws.{meets_unique}
+use Rattle.definition.proofs.KeptLaws.{meets_unique}
 
 -- a plan of this set, of the plans l and r
 abbrev plan : ℕ → ℕ → ℕ → Plan

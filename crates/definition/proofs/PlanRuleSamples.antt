@@ -11,12 +11,12 @@ use Rattle.nodeset.specs.Subsets.{doubled, subsets_of, non_empty_subsets, single
 use Rattle.definition.specs.Hypergraph.{Edge, has_edge, connecting_from, beyond, neighborhood, any_predicate, selectivities_of}
 use Rattle.definition.specs.Cost.{filtered, candidate_from}
 use Rattle.definition.specs.Walk.{enumerate_cmp_rec, emit_csg, enumerate_csg_rec, solve_from}
-use Rattle.definition.specs.WalkLaws.{Sided}
+use Rattle.definition.proofs.WalkLaws.{Sided}
 use Rattle.definition.specs.Search.{Leaf, Plan, Entry, Pair, Input, State, find, replace, visit, candidate_kind, candidate, memo_after, joined, attempt, leaf_plans, leaf_entries, start, search}
 use Rattle.definition.specs.Kept.{plan_of, Several, KeptAfter, Qualifies, Meets, occurs, JoinsOnce}
 use Rattle.definition.specs.PlanRule.{WithinLimits, WellKept, PlanRule}
-use Rattle.definition.specs.KeptLaws.{kept_unique, meets_unique}
-use Rattle.definition.specs.KeptSearch.{search_rule, attempts, attempts_rule}
+use Rattle.definition.proofs.KeptLaws.{kept_unique, meets_unique}
+use Rattle.definition.proofs.KeptSearch.{search_rule, attempts, attempts_rule}
 
 abbrev edge : ℕ → ℕ → ℕ → ℕ → Edge
 edge l r p m = record { left = l; right = r; predicate = p; source = m; type = 0 }

@@ -23,9 +23,9 @@ use Rattle.definition.specs.Tables.{type_of, assoc, l_asscom, r_asscom}
 use Rattle.definition.specs.Hypergraph.{Edge, Sided, none32}
 use Rattle.definition.specs.GoodEdge.{GoodEdge}
 use Rattle.definition.specs.Edges.{JoinRecord, Sides, Build, holder, holders, side_set, gained, inside, widened_left, widened_right, widen, sides_for, edge_of, with_edge, inner_edges, other_edges, with_join, record_of, join_item, cross_item, leaf_item, join, on_pile, build_item, build_from, empty_build, build_hypergraph}
-use Rattle.definition.specs.Settled.{sub_of, sub_trans, sub-or_l, sub-or_r, or-sub}
-use Rattle.definition.specs.Depth.{Below, or_pos}
-use Rattle.definition.specs.AllLaws.{all_map, all_append}
+use Rattle.definition.proofs.Settled.{sub_of, sub_trans, sub-or_l, sub-or_r, or-sub}
+use Rattle.definition.proofs.Depth.{Below, or_pos}
+use Rattle.definition.proofs.AllLaws.{all_map, all_append}
 
 -- ---- apart
 

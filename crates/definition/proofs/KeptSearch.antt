@@ -17,17 +17,17 @@ use Rattle.definition.specs.Answers.{plans_full, memo_full, visits_spent}
 use Rattle.definition.specs.Lists.{tabulate, member}
 use Rattle.definition.specs.Hypergraph.{connecting}
 use Rattle.definition.specs.Cost.{cheaper}
-use Rattle.definition.specs.EstimateOrderLaws.{cheaper→costs_less, not_cheaper→at_least}
+use Rattle.definition.proofs.EstimateOrderLaws.{cheaper→costs_less, not_cheaper→at_least}
 use Rattle.definition.specs.Walk.{each}
-use Rattle.definition.specs.WalkLaws.{solve_keeps}
+use Rattle.definition.proofs.WalkLaws.{solve_keeps}
 use Rattle.definition.specs.Search.{Plan, Pair, Input, State, find, kept, plan_at, visit, added, joined, candidate, attempt, leaf_plans, start, search, complete, ending, chosen_plan}
 use Rattle.definition.specs.Call.{searched}
 use Rattle.definition.specs.Kept.{union, made_for, Several, KeptAfter, single, larger, Qualifies, Made, Candidates}
 use Rattle.definition.specs.PlanRule.{WithinLimits, entry_of, first_sets, MemoHolds, WellKept, Finite, PlanRule, pairs_in}
-use Rattle.definition.specs.KeptLaws.{single_not_several, connecting-edge, kept_below, kept_unique, kept_set, joins_once, edge-at-each-join, all_finite, pair_several, read_back_lem}
-use Rattle.definition.specs.KeptMore.{length_more, pair_new, plan_new, kept_other, for_other, kept_first, kept-cheaper, kept_dearer, candidates_more}
-use Rattle.definition.specs.MemoLaws.{sets_of, some_inj, none≢some, winner, memo_after_same, memo_after_other, find-member, sets-memo_after, leaf_plans-length, leaf_found, leaf_missed}
-use Rattle.definition.specs.MemoOrder.{first_more, Distinct, entries_once, find_at, find_position, leaf-sets, leaf_first, order_distinct}
+use Rattle.definition.proofs.KeptLaws.{single_not_several, connecting-edge, kept_below, kept_unique, kept_set, joins_once, edge-at-each-join, all_finite, pair_several, read_back_lem}
+use Rattle.definition.proofs.KeptMore.{length_more, pair_new, plan_new, kept_other, for_other, kept_first, kept-cheaper, kept_dearer, candidates_more}
+use Rattle.definition.proofs.MemoLaws.{sets_of, some_inj, none≢some, winner, memo_after_same, memo_after_other, find-member, sets-memo_after, leaf_plans-length, leaf_found, leaf_missed}
+use Rattle.definition.proofs.MemoOrder.{first_more, Distinct, entries_once, find_at, find_position, leaf-sets, leaf_first, order_distinct}
 
 -- plan p is kept for the set s after all candidates of a state
 abbrev pub KeptIn : Input → State → ℕ → ℕ → Type 0

@@ -9,12 +9,12 @@ use Rattle.std.proofs.Math.ListN.{get_or-append, get_or-map}
 use Rattle.std.proofs.Math.Seq.{get_or-append_seam}
 use Rattle.nodeset.specs.Sets.{singleton}
 use Rattle.definition.specs.Lists.{tabulate, member}
-use Rattle.definition.specs.ListLaws.{length-tabulate, tabulate_same, tabulate-at}
+use Rattle.definition.proofs.ListLaws.{length-tabulate, tabulate_same, tabulate-at}
 use Rattle.definition.specs.Search.{Leaf, Entry, Pair, find, leaf_entries}
 use Rattle.definition.specs.Kept.{pair_of, union}
-use Rattle.definition.specs.MemoLaws.{sets_of, some_inj, none≢some, found_first, passed_over_lem}
+use Rattle.definition.proofs.MemoLaws.{sets_of, some_inj, none≢some, found_first, passed_over_lem}
 use Rattle.definition.specs.PlanRule.{entry_of, first_sets}
-use Rattle.definition.specs.KeptLaws.{singleton_inj}
+use Rattle.definition.proofs.KeptLaws.{singleton_inj}
 
 -- ---- one set more
 

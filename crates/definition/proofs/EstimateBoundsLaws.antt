@@ -12,13 +12,13 @@ use Rattle.std.specs.Float.Ieee.Order.{round_mono}
 use Rattle.std.specs.Float.Ieee.Back.{round_whole}
 use Rattle.std.specs.Float.Ieee.Positive.{num, den, den_pos}
 use Rattle.nodeset.specs.SubsetLaws.{All}
-use Rattle.definition.specs.AllLaws.{all_get}
-use Rattle.definition.specs.FloatLaws.{by_form, mul_is, add_is, value_sign, value_num}
+use Rattle.definition.proofs.AllLaws.{all_get}
+use Rattle.definition.proofs.FloatLaws.{by_form, mul_is, add_is, value_sign, value_num}
 use Rattle.definition.specs.Cost.{Estimate, whole, full, ceiling, leaf_estimate, product, fraction, filtered, capped, lesser, greater}
 use Rattle.definition.specs.Cost.{RowRule, inner_rows, row_rules, rows_by_kind, candidate_rows, candidate_from, candidate_estimate}
 use Rattle.definition.specs.Hypergraph.{Edge, no_edge, has_predicate, selectivities_of}
 use Rattle.definition.specs.EstimateOrder.{NonNegative}
-use Rattle.definition.specs.EstimateOrderLaws.{not_less→at_least}
+use Rattle.definition.proofs.EstimateOrderLaws.{not_less→at_least}
 use Rattle.definition.specs.EstimateBounds.{AtMost, Bounded, Selectivities, JoinTree, scan, join, tree_estimate, leaves, Legal}
 
 -- ---- the sign of a rounded value
