@@ -5,10 +5,10 @@ use Rattle.std.proofs.lemmas.List.{length-map}
 use Rattle.std.proofs.Math.ListN.{get_or-append, get_or-map}
 use Rattle.std.proofs.lemmas.List.Edits.{sets, sets-eq}
 use Rattle.definition.specs.Lists.{tabulate}
-use Rattle.definition.specs.ListLaws.{length-tabulate, get_d_tabulate}
+use Rattle.definition.proofs.ListLaws.{length-tabulate, get_d_tabulate}
 use Rattle.definition.specs.Search.{Input, Pair, Plan, absent}
 use Rattle.definition.specs.Kept.{plan_of, pair_of, KeptAfter, Candidates}
-use Rattle.definition.specs.KeptLaws.{kept_below, kept_set}
+use Rattle.definition.proofs.KeptLaws.{kept_below, kept_set}
 use Rattle.listing.specs.Text.{pairs_of, side_sets}
 
 -- what the front of a list of n places holds after n stores

@@ -10,7 +10,7 @@ use Rattle.std.proofs.lemmas.List.Edits.{sets}
 use Rattle.std.proofs.Math.Seq.{sets-eq}
 use borrow.Author.Tests.{lt-ltb, le-ltb}
 use Rattle.definition.specs.Lists.{tabulate}
-use Rattle.definition.specs.ListLaws.{length-tabulate, tabulate_more}
+use Rattle.definition.proofs.ListLaws.{length-tabulate, tabulate_more}
 use Rattle.definition.specs.Search.{Pair}
 use Rattle.definition.specs.TriedList.{decimal, hex16, line, tried_lines, tried_list}
 use Rattle.listing.specs.declared.Written.TheVariants.{Bytes, NoRoom}
