@@ -1,0 +1,33 @@
+use mathlib.Core.Path.{◌≡◌, sym, ap₂, ◌∙◌}
+use Prim.Native.Nat.{◌≤◌}
+use native.Mathlib.Omega.{arith}
+use lib.ListN.{length}
+use Rattle.definition.specs.Question.{predicate, fits}
+use Rattle.definition.specs.Sheet.{question_of}
+use Rattle.definition.specs.SheetLaws.{predicate_above, predicate_past, predicate-fits, length_columns}
+use Rattle.sheet_check.proofs.checks.check_predicate.Goals as goal
+
+pub returns-then-predicate_selectivity-gt65536 : goal.returns-then-predicate_selectivity-gt65536
+returns-then-predicate_selectivity-gt65536 c =
+    let a = c.args in
+    let q = question_of a.sheet.now in
+    let x = predicate q a.p.0 in
+    sym (predicate_above q x (omega (arith, c.predicate_selectivity.ensures, c.if-predicate_selectivity-gt65536.true)))
+
+pub returns-then-fits : goal.returns-then-fits
+returns-then-fits c =
+    let a = c.args in
+    let q = question_of a.sheet.now in
+    let x = predicate q a.p.0 in
+    let within : x.selectivity ≤ 65536 = omega (arith, c.predicate_selectivity.ensures, c.if-predicate_selectivity-gt65536.false) in
+    let inside : fits x.range (length q.columns) ≡ c.fits.result = sym (c.fits.ensures ∙ ap₂ fits c.predicate_range-r.ensures (c.requires.0.columns_many ∙ sym (length_columns a.sheet.now))) in
+    sym (predicate-fits q x within (inside ∙ c.if-fits.true))
+
+pub returns-else-fits : goal.returns-else-fits
+returns-else-fits c =
+    let a = c.args in
+    let q = question_of a.sheet.now in
+    let x = predicate q a.p.0 in
+    let within : x.selectivity ≤ 65536 = omega (arith, c.predicate_selectivity.ensures, c.if-predicate_selectivity-gt65536.false) in
+    let inside : fits x.range (length q.columns) ≡ c.fits.result = sym (c.fits.ensures ∙ ap₂ fits c.predicate_range-r.ensures (c.requires.0.columns_many ∙ sym (length_columns a.sheet.now))) in
+    sym (predicate_past q x within (inside ∙ c.if-fits.false))
