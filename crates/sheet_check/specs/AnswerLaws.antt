@@ -3,7 +3,7 @@ use Rattle.std.specs.Prelude.{ℕ, ◌<◌, List, ◌≡◌, eqb}
 use Rattle.std.proofs.Common.{inl, inr, sym, ap, ◌∙◌, arith}
 use Rattle.definition.specs.Question.{Range, Item, leaf}
 use Rattle.definition.specs.Sheet.{question_of, table_length}
-use Rattle.definition.specs.SheetLaws.{length_columns, length_predicates, true_or_false}
+use Rattle.definition.proofs.SheetLaws.{length_columns, length_predicates, true_or_false}
 use Rattle.sheet.specs.Views.{Placed}
 use Rattle.sheet.specs.declared.Sections.{Sections}
 use Rattle.sheet_check.specs.Views.{number_of, verdict_number, table_count}

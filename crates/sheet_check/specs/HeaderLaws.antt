@@ -4,7 +4,7 @@ use mathlib.Core.List.{List, []}
 use Rattle.std.proofs.Common.{ap, ◌∙◌, le-ltb, lt-ltb, eq-eqb, ne_eqb}
 use Rattle.definition.specs.Answers.{truncated, over_limit, misplaced}
 use Rattle.definition.specs.Sheet.{item_count, predicate_count, column_count, first_failing, header_checks}
-use Rattle.definition.specs.SheetLaws.{header_answer, fails_here, fails_later}
+use Rattle.definition.proofs.SheetLaws.{header_answer, fails_here, fails_later}
 use Rattle.sheet.specs.Views.{sections_of}
 use Rattle.sheet.specs.declared.Sections.{Sections}
 

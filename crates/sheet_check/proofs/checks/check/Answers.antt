@@ -1,7 +1,7 @@
 use mathlib.Core.Path.{◌≡◌, refl, sym, ◌∙◌}
 use native.Mathlib.Omega.{arith}
 use Rattle.definition.specs.Sheet.{question_of}
-use Rattle.definition.specs.SheetLaws.{header_answer, items_answer, predicates_answer, walk_answer, answer_header, answer_question, answer_items, answer_predicates, answer_walk, framed}
+use Rattle.definition.proofs.SheetLaws.{header_answer, items_answer, predicates_answer, walk_answer, answer_header, answer_question, answer_items, answer_predicates, answer_walk, framed}
 use Rattle.sheet.specs.Placing.{placed}
 use Rattle.sheet_check.specs.AnswerLaws.{number_fails, number_passes, never_accepted, same_sections}
 use Rattle.sheet_check.proofs.checks.check.Goals as goal

@@ -7,7 +7,7 @@ use Rattle.definition.specs.Question.{Item, Range, item, fits}
 use Rattle.sheet.specs.Views.{Placed}
 use Rattle.sheet.specs.declared.Sections.{Sections}
 use Rattle.definition.specs.Sheet.{question_of, reserved_is_set, table_length}
-use Rattle.definition.specs.SheetLaws.{item_unknown, item_reserved, item_past, item-fits}
+use Rattle.definition.proofs.SheetLaws.{item_unknown, item_reserved, item_past, item-fits}
 use Rattle.sheet_check.specs.Views.{table_count}
 use Rattle.sheet_check.specs.AnswerLaws.{item_of, table_here}
 use Rattle.sheet_check.proofs.checks.check_item.Goals as goal

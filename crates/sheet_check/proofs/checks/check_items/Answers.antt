@@ -3,7 +3,7 @@ use native.Mathlib.Omega.{arith}
 use Prim.Native.Nat.{◌<◌}
 use lib.ListN.{length}
 use Rattle.definition.specs.Sheet.{question_of}
-use Rattle.definition.specs.SheetLaws.{length_items, item_fails, item_passes, items_end}
+use Rattle.definition.proofs.SheetLaws.{length_items, item_fails, item_passes, items_end}
 use Rattle.sheet_check.specs.AnswerLaws.{number_fails, number_passes}
 use Rattle.sheet_check.proofs.checks.check_items.Goals as goal
 

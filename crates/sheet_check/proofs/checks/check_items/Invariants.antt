@@ -3,7 +3,7 @@ use Prim.Native.Nat.{◌-◌, ◌≤◌}
 use lib.ListN.{drop}
 use Rattle.definition.specs.Lists.{concat_map}
 use Rattle.definition.specs.Sheet.{question_of, first_failing, item_checks}
-use Rattle.definition.specs.SheetLaws.{items_answer}
+use Rattle.definition.proofs.SheetLaws.{items_answer}
 use Rattle.sheet_check.proofs.checks.check_items.Given as goal
 
 -- the checks from item i on give the answer of all

@@ -4,7 +4,7 @@ use native.Mathlib.Omega.{arith}
 use lib.ListN.{length}
 use Rattle.definition.specs.Question.{predicate, fits}
 use Rattle.definition.specs.Sheet.{question_of}
-use Rattle.definition.specs.SheetLaws.{predicate_above, predicate_past, predicate-fits, length_columns}
+use Rattle.definition.proofs.SheetLaws.{predicate_above, predicate_past, predicate-fits, length_columns}
 use Rattle.sheet_check.proofs.checks.check_predicate.Goals as goal
 
 pub returns-then-predicate_selectivity-gt65536 : goal.returns-then-predicate_selectivity-gt65536

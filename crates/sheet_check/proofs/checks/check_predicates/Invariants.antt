@@ -3,7 +3,7 @@ use Prim.Native.Nat.{◌-◌, ◌≤◌}
 use lib.ListN.{drop}
 use Rattle.definition.specs.Lists.{concat_map}
 use Rattle.definition.specs.Sheet.{question_of, first_failing, predicate_checks}
-use Rattle.definition.specs.SheetLaws.{predicates_answer}
+use Rattle.definition.proofs.SheetLaws.{predicates_answer}
 use Rattle.sheet_check.proofs.checks.check_predicates.Given as goal
 
 -- the checks from predicate p on give the answer of all

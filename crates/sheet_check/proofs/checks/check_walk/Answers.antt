@@ -3,7 +3,7 @@ use Prim.Native.Nat.{◌≤◌}
 use native.Mathlib.Omega.{arith}
 use Rattle.definition.specs.Question.{open_question, leaf_count}
 use Rattle.definition.specs.Sheet.{question_of}
-use Rattle.definition.specs.SheetLaws.{walk_crowded, walk_broken, walk_whole}
+use Rattle.definition.proofs.SheetLaws.{walk_crowded, walk_broken, walk_whole}
 use Rattle.sheet_check.proofs.checks.check_walk.Goals as goal
 
 pub returns-then-crowded : goal.returns-then-crowded
