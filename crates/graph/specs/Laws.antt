@@ -3,7 +3,7 @@ use Rattle.std.specs.Prelude.{◌≡◌, true, false, List, ℕ, ◌+◌, ◌≤
 use Rattle.std.specs.Int.Bits.{bit_or, or_zero_r}
 use Rattle.definition.specs.Hypergraph.{Edge, beyond, neighborhood, connects, has_edge}
 use Rattle.definition.specs.EdgeView.{edge_at, edges_of}
-use Rattle.definition.specs.EdgeViewLaws.{edges_at, edges_end}
+use Rattle.definition.proofs.EdgeViewLaws.{edges_at, edges_end}
 use Rattle.nodeset.specs.SetLaws.{or_assoc}
 
 module _ (n : ℕ) (l r p c t : List ℕ) where
