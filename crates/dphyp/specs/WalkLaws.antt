@@ -8,7 +8,7 @@ use Rattle.candidate.specs.Store.{Store, Given}
 use Rattle.stepping.specs.Next.{count_after}
 use Rattle.enumerate_csg.specs.Walks.{store_csg_rec}
 use Rattle.dphyp.specs.Walks.{store_from, solve_leaf}
-use Rattle.stepping.specs.Stepping.{Frozen, count_next, count_end}
+use Rattle.stepping.proofs.Stepping.{Frozen, count_next, count_end}
 use Rattle.enumerate_cmp.specs.WalkLaws.{stop_of}
 use Rattle.emit_csg.specs.WalkLaws.{emit_frozen}
 use Rattle.enumerate_csg.specs.WalkLaws.{csg_frozen}

@@ -10,7 +10,7 @@ use Rattle.definition.specs.Walk.{each, emit_csg}
 use Rattle.candidate.specs.Store.{Store, Given, edges, attempt}
 use Rattle.enumerate_cmp.specs.Walks.{store_cmp_rec}
 use Rattle.emit_csg.specs.Walks.{store_emit, store_try, try_neighbor}
-use Rattle.stepping.specs.Stepping.{Frozen, each_frozen}
+use Rattle.stepping.proofs.Stepping.{Frozen, each_frozen}
 use Rattle.enumerate_cmp.specs.WalkLaws.{stop_of, elim_same, attempt_frozen, cmp_frozen}
 
 -- b: whether an edge leads from s1 to v

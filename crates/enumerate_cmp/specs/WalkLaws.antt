@@ -15,7 +15,7 @@ use Rattle.store.specs.Laws.{visit-stopped}
 use Rattle.candidate.specs.Store.{Lists, Store, Given, store, edges, kept, visit, attempt}
 use Rattle.candidate.specs.Laws.{due_stopped, attempt_skip}
 use Rattle.enumerate_cmp.specs.Walks.{store_cmp_rec, visit_try, visit_tries, visit_cmp}
-use Rattle.stepping.specs.Stepping.{Frozen, each_frozen}
+use Rattle.stepping.proofs.Stepping.{Frozen, each_frozen}
 
 abbrev pub stop_of : Store → ℕ
 stop_of st = st.at.stop

@@ -14,7 +14,7 @@ use Rattle.store.specs.Memo.{spot, is_at}
 use Rattle.candidate.specs.Store.{Lists, Store, Given, store, edges, kept, visit, attempt}
 use Rattle.emit_csg.specs.Walks.{store_emit}
 use Rattle.enumerate_csg.specs.Walks.{store_csg_rec, visit_emit, visit_emits, visit_csg}
-use Rattle.stepping.specs.Stepping.{Frozen, each_frozen}
+use Rattle.stepping.proofs.Stepping.{Frozen, each_frozen}
 use Rattle.enumerate_cmp.specs.WalkLaws.{stop_of, elim_same, visit_frozen}
 use Rattle.emit_csg.specs.WalkLaws.{emit_frozen}
 

@@ -6,7 +6,7 @@ use native.Mathlib.Omega.{arith}
 use Rattle.candidate.specs.Store.{given, lists, store}
 use Rattle.dphyp.specs.WalkLaws.{solve_next, solve_end}
 use Rattle.candidate.specs.Lengths.{SameLengths, lengths_trans, lengths_refl}
-use Rattle.stepping.specs.Stepping.{count_le}
+use Rattle.stepping.proofs.Stepping.{count_le}
 use Rattle.dphyp.specs.Walks.{store_from}
 use Prim.Native.Nat.{◌-◌}
 

@@ -7,7 +7,7 @@ use Rattle.candidate.specs.Store.{given, lists, store}
 use Rattle.enumerate_cmp.specs.WalkLaws.{stop_of}
 use Rattle.emit_csg.specs.WalkLaws.{neighbor_frozen, emit_is}
 use Rattle.candidate.specs.Lengths.{SameLengths, lengths_trans, lengths_refl}
-use Rattle.stepping.specs.Stepping.{leaves_less, falling_next, falling_end}
+use Rattle.stepping.proofs.Stepping.{leaves_less, falling_next, falling_end}
 use Rattle.emit_csg.specs.Walks.{try_neighbor}
 use Rattle.definition.specs.Walk.{each}
 use Rattle.nodeset.specs.Subsets.{singletons}

@@ -16,7 +16,7 @@ use native.Mathlib.Omega.{arith}
 use Rattle.candidate.specs.Store.{given, lists, store}
 use Rattle.enumerate_cmp.specs.WalkLaws.{stop_of, visit_cmp_frozen, cmp_none, cmp_both}
 use Rattle.candidate.specs.Lengths.{SameLengths, lengths_trans, lengths_refl}
-use Rattle.stepping.specs.Stepping.{Passing, passing_start, passing_next, passing_less, passing_end, far}
+use Rattle.stepping.proofs.Stepping.{Passing, passing_start, passing_next, passing_less, passing_end, far}
 use Rattle.enumerate_cmp.specs.Walks.{store_cmp_rec, visit_cmp}
 use Rattle.definition.specs.Walk.{each}
 use Rattle.nodeset.specs.Subsets.{non_empty_subsets}

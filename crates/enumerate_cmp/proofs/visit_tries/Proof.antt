@@ -4,7 +4,7 @@ use Rattle.enumerate_cmp.proofs.visit_tries.Tie as tie
 use Rattle.candidate.specs.Store.{given, lists, store}
 use Rattle.enumerate_cmp.specs.WalkLaws.{stop_of, visit_try_frozen}
 use Rattle.candidate.specs.Lengths.{SameLengths, lengths_trans, lengths_refl}
-use Rattle.stepping.specs.Stepping.{Passing, passing_start, passing_next, passing_less, passing_end, far}
+use Rattle.stepping.proofs.Stepping.{Passing, passing_start, passing_next, passing_less, passing_end, far}
 use Rattle.enumerate_cmp.specs.Walks.{visit_try, visit_tries}
 
 abbrev invariant-loop : tie.invariant-loop

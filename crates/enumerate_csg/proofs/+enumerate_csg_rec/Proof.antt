@@ -17,7 +17,7 @@ use Rattle.candidate.specs.Store.{given, lists, store}
 use Rattle.enumerate_cmp.specs.WalkLaws.{stop_of}
 use Rattle.enumerate_csg.specs.WalkLaws.{visit_csg_frozen, csg_none, csg_both}
 use Rattle.candidate.specs.Lengths.{SameLengths, lengths_trans, lengths_refl}
-use Rattle.stepping.specs.Stepping.{Passing, passing_start, passing_next, passing_less, passing_end, far}
+use Rattle.stepping.proofs.Stepping.{Passing, passing_start, passing_next, passing_less, passing_end, far}
 use Rattle.enumerate_csg.specs.Walks.{store_csg_rec, visit_csg}
 use Rattle.definition.specs.Walk.{each}
 use Rattle.nodeset.specs.Subsets.{non_empty_subsets}

@@ -5,7 +5,7 @@ use Rattle.candidate.specs.Store.{given, lists, store}
 use Rattle.enumerate_cmp.specs.WalkLaws.{stop_of}
 use Rattle.enumerate_csg.specs.WalkLaws.{visit_emit_frozen}
 use Rattle.candidate.specs.Lengths.{SameLengths, lengths_trans, lengths_refl}
-use Rattle.stepping.specs.Stepping.{Passing, passing_start, passing_next, passing_less, passing_end, far}
+use Rattle.stepping.proofs.Stepping.{Passing, passing_start, passing_next, passing_less, passing_end, far}
 use Rattle.enumerate_csg.specs.Walks.{visit_emit, visit_emits}
 
 abbrev invariant-loop : tie.invariant-loop

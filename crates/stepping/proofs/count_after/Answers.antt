@@ -1,4 +1,4 @@
-use Rattle.stepping.specs.Stepping.{count_go, count_stop}
+use Rattle.stepping.proofs.Stepping.{count_go, count_stop}
 use Rattle.stepping.proofs.count_after.Goals as goal
 
 pub returns-then-stop-ne0 : goal.returns-then-stop-ne0

@@ -1,4 +1,4 @@
-use Rattle.stepping.specs.Stepping.{leaves_go, leaves_stop}
+use Rattle.stepping.proofs.Stepping.{leaves_go, leaves_stop}
 use mathlib.Core.Path.{◌∙◌}
 use Rattle.stepping.proofs.leaves_after.Goals as goal
 

@@ -1,4 +1,4 @@
-use Rattle.stepping.specs.Stepping.{subset_go, subset_stop}
+use Rattle.stepping.proofs.Stepping.{subset_go, subset_stop}
 use mathlib.Core.Path.{◌∙◌}
 use Rattle.stepping.proofs.subset_after.Goals as goal
 

@@ -1,0 +1,2 @@
+-- Laws of the loops.
+pub mod Stepping
