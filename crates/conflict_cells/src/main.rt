@@ -2,7 +2,7 @@
 #![tactic(auto)]
 
 use conflict::{Compatibility, HyperedgeJoinType};
-use libc::STDOUT_FILENO;
+use std::io;
 
 // The cell of table 0 (assoc), 1 (l_asscom) or 2 (r_asscom).
 fn cell(table: u32, a: u32, b: u32) -> Compatibility {
@@ -13,49 +13,47 @@ fn cell(table: u32, a: u32, b: u32) -> Compatibility {
     }
 }
 
-fn print_cell(table: u32, a: u32, b: u32) -> bool {
+fn print_cell(rt: &impl Print, table: u32, a: u32, b: u32) -> io::Result<()> {
     match cell(table, a, b) {
         Compatibility::Cell(yes) => {
             if yes {
-                io::write_all(STDOUT_FILENO, b"+")
+                rt.print("+")
             } else {
-                io::write_all(STDOUT_FILENO, b"-")
+                rt.print("-")
             }
         }
-        Compatibility::UnknownType => io::write_all(STDOUT_FILENO, b"4"),
+        Compatibility::UnknownType => rt.print("4"),
     }
 }
 
-fn print_row(table: u32, a: u32) {
+fn print_row(rt: &impl Print, table: u32, a: u32) -> io::Result<()> {
     for b in 0u32..9 {
-        print_cell(table, a, b);
+        print_cell(rt, table, a, b)?;
     }
-    io::write_all(STDOUT_FILENO, b"\n");
+    rt.print("\n")
 }
 
-fn print_table(table: u32) {
+fn print_table(rt: &impl Print, table: u32) -> io::Result<()> {
     for a in 0u32..9 {
-        print_row(table, a);
+        print_row(rt, table, a)?;
     }
+    Ok(())
 }
 
-fn print_types() {
+fn print_types(rt: &impl Print) -> io::Result<()> {
     for kind in 0u32..10 {
-        io::print_decimal(
-            STDOUT_FILENO,
-            HyperedgeJoinType::from_join_type(kind).number() as u64,
-        );
+        rt.print(HyperedgeJoinType::from_join_type(kind).number())?;
     }
-    io::write_all(STDOUT_FILENO, b"\n");
+    rt.print("\n")
 }
 
-fn main() {
-    io::write_all(STDOUT_FILENO, b"assoc\n");
-    print_table(0);
-    io::write_all(STDOUT_FILENO, b"l_asscom\n");
-    print_table(1);
-    io::write_all(STDOUT_FILENO, b"r_asscom\n");
-    print_table(2);
-    io::write_all(STDOUT_FILENO, b"types\n");
-    print_types();
+fn main(rt: HostRuntime) -> io::Result<()> {
+    rt.print("assoc\n")?;
+    print_table(&rt, 0)?;
+    rt.print("l_asscom\n")?;
+    print_table(&rt, 1)?;
+    rt.print("r_asscom\n")?;
+    print_table(&rt, 2)?;
+    rt.print("types\n")?;
+    print_types(&rt)
 }

@@ -1,4 +1,4 @@
-// Stored records on standard input: a line of text, then records. A record begins with its whole length in bytes, a sheet's length and the
+// Stored records: a line of text, then records. A record begins with its whole length in bytes, a sheet's length and the
 // sheet, filled up to whole words. Numbers are little-endian; a word has 4 bytes, a long 8. The oracle writes them (oracle/README.md).
 #![tactic(auto)]
 
@@ -7,13 +7,14 @@ mod entries;
 mod lists;
 
 ghost use Rattle.std.specs.Prelude.{◌≡◌};
-ghost use Rattle.io.specs.Counts.{IsPrefixLen};
+ghost use Rattle.std.specs.Io.{ReadsAtMost};
 ghost use Rattle.records.specs.Records.{word_at, long_at, sheet_of, after_sheet};
 
 pub use call::{Places, limit, list_length, places_in};
 pub use entries::{same_edges, same_memo, same_plans};
-use libc::{STDIN_FILENO, STDOUT_FILENO};
 pub use lists::{LONG, NUMBER, WORD};
+use std::io;
+use std::io::Read;
 
 // The word there, and 0 past the end.
 pub fn word(bytes: &[u8], at: usize) -> u32
@@ -46,45 +47,46 @@ pub fn long(bytes: &[u8], at: usize) -> u64
 }
 
 // Reads one byte, and answers whether the line goes on.
-fn goes_on() -> bool {
+fn goes_on<R: Read>(input: &mut R) -> io::Result<bool> {
     let mut one = [0u8; 1];
-    let got = io::read_full(STDIN_FILENO, &mut one);
-    got == 1 && one[0] != 10
+    let got = reading::read_full(input, &mut one)?;
+    Ok(got == 1 && one[0] != 10)
 }
 
 // Reads the line of text, of at most 4,096 bytes.
-pub fn skip_line() {
+pub fn skip_line<R: Read>(input: &mut R) -> io::Result<()> {
     let mut left: u32 = 4096;
-    while left > 0 && goes_on() {
+    while left > 0 && goes_on(input)? {
         left -= 1;
     }
+    Ok(())
 }
 
 // The next record's whole length; 0 where the input ends.
-fn next_length() -> u32 {
+fn next_length<R: Read>(input: &mut R) -> io::Result<u32> {
     let mut head = [0u8; 4];
-    let got = io::read_full(STDIN_FILENO, &mut head);
+    let got = reading::read_full(input, &mut head)?;
     if got < 4 {
-        return 0;
+        return Ok(0);
     }
-    word(&head, 0)
+    Ok(word(&head, 0))
 }
 
 // Reads a record without its first word to the start of buf, and answers how many bytes it has; 0 where the input ends, or has no whole
 // record that buf has room for.
-pub fn next_record(buf: &mut [u8]) -> usize
-    ensures { IsPrefixLen result buf.new }
+pub fn next_record<R: Read>(input: &mut R, buf: &mut [u8]) -> io::Result<usize>
+    ensures { ReadsAtMost result buf.new }
 {
-    let length = next_length() as usize;
+    let length = next_length(input)? as usize;
     if length < 4 {
-        return 0;
+        return Ok(0);
     }
     let n = length - 4;
     if buf.len() < n {
-        return 0;
+        return Ok(0);
     }
-    let got = io::read_full(STDIN_FILENO, &mut buf[0..n]);
-    if got < n { 0 } else { n }
+    let got = reading::read_full(input, &mut buf[0..n])?;
+    Ok(if got < n { 0 } else { n })
 }
 
 // The sheet of a record, which comes without its first word; no bytes where it has no whole sheet.
@@ -115,7 +117,7 @@ pub fn after_sheet(bytes: &[u8]) -> &[u8]
     &bytes[at..n]
 }
 
-pub fn print_number(before: &[u8], n: u64) {
-    io::write_all(STDOUT_FILENO, before);
-    io::print_decimal(STDOUT_FILENO, n);
+pub fn print_number(rt: &impl Print, before: &str, n: u64) -> io::Result<()> {
+    rt.print(before)?;
+    rt.print(n)
 }
