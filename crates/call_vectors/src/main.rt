@@ -6,7 +6,8 @@
 ghost use Rattle.std.specs.Prelude.{◌≡◌, ◌+◌, ◌*◌, ◌<◌, ◌≤◌, length};
 
 use answer::{Answer, Report};
-use libc::STDOUT_FILENO;
+use std::io;
+use std::io::Read;
 
 #[derive(Drop)]
 struct Tally {
@@ -281,7 +282,7 @@ fn sum(t: Tally, r: Tally) -> Tally
 }
 
 // All records, up to a million.
-fn replay(buf: &mut [u8]) -> Tally {
+fn replay<R: Read>(input: &mut R, buf: &mut [u8]) -> io::Result<Tally> {
     let mut t = Tally {
         records: 0,
         edges: 0,
@@ -290,23 +291,24 @@ fn replay(buf: &mut [u8]) -> Tally {
         agree: 0,
     };
     while t.records < 1000000 {
-        let n = records::next_record(buf);
+        let n = records::next_record(input, buf)?;
         if n == 0 {
-            return t;
+            return Ok(t);
         }
         t = sum(t, tally_of(&buf[..n]));
     }
-    t
+    Ok(t)
 }
 
-fn main() {
+fn main(rt: HostRuntime) -> io::Result<()> {
     let mut space = record_space();
-    records::skip_line();
-    let t = replay(&mut space);
-    records::print_number(b"", t.records as u64);
-    records::print_number(b" records, ", t.edges as u64);
-    records::print_number(b" edges, ", t.plans as u64);
-    records::print_number(b" plans, ", t.memo as u64);
-    records::print_number(b" memo entries, ", t.agree as u64);
-    io::write_all(STDOUT_FILENO, b" records agree\n");
+    let mut input = rt.stdin();
+    records::skip_line(&mut input)?;
+    let t = replay(&mut input, &mut space)?;
+    records::print_number(&rt, "", t.records as u64)?;
+    records::print_number(&rt, " records, ", t.edges as u64)?;
+    records::print_number(&rt, " edges, ", t.plans as u64)?;
+    records::print_number(&rt, " plans, ", t.memo as u64)?;
+    records::print_number(&rt, " memo entries, ", t.agree as u64)?;
+    rt.print(" records agree\n")
 }

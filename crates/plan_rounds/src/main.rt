@@ -5,8 +5,9 @@
 ghost use Rattle.std.specs.Prelude.{◌<◌};
 
 use answer::Report;
-use libc::{STDIN_FILENO, STDOUT_FILENO};
 use search::Ending;
+use std::io;
+use std::io::Read;
 
 // The visit limit.
 const LIMIT: u32 = 4294967295;
@@ -73,18 +74,18 @@ fn repeat(
     last
 }
 
-fn print_number(n: u32, after: &[u8]) {
-    io::print_decimal(STDOUT_FILENO, n as u64);
-    io::write_all(STDOUT_FILENO, after);
+fn print_number(rt: &impl Print, n: u32, after: &str) -> io::Result<()> {
+    rt.print(n)?;
+    rt.print(after)
 }
 
-fn print(r: Report) {
-    print_number(r.answer, b" ");
-    print_number(r.edges, b" ");
-    print_number(r.plans, b" ");
-    print_number(r.memo, b" ");
-    print_number(r.visits, b" ");
-    print_number(r.chosen, b"\n");
+fn print(rt: &impl Print, r: Report) -> io::Result<()> {
+    print_number(rt, r.answer, " ")?;
+    print_number(rt, r.edges, " ")?;
+    print_number(rt, r.plans, " ")?;
+    print_number(rt, r.memo, " ")?;
+    print_number(rt, r.visits, " ")?;
+    print_number(rt, r.chosen, "\n")
 }
 
 fn wide(b: u8) -> u32
@@ -94,17 +95,17 @@ fn wide(b: u8) -> u32
 }
 
 // The number of rounds; 0 where the input has no four bytes.
-fn read_rounds() -> u32 {
+fn read_rounds<R: Read>(input: &mut R) -> io::Result<u32> {
     let mut head = [0u8; 4];
-    let got = io::read_full(STDIN_FILENO, &mut head);
+    let got = reading::read_full(input, &mut head)?;
     if got < 4 {
-        return 0;
+        return Ok(0);
     }
-    wide(head[0]) + 256 * wide(head[1]) + 65536 * wide(head[2]) + 16777216 * wide(head[3])
+    Ok(wide(head[0]) + 256 * wide(head[1]) + 65536 * wide(head[2]) + 16777216 * wide(head[3]))
 }
 
 // Lends stores that are long enough for every sheet of the bench, and prints the last call's numbers.
-fn run(sheet: &[u8], rounds: u32) {
+fn run(rt: &impl Print, sheet: &[u8], rounds: u32) -> io::Result<()> {
     let mut eleft = [0u64; 256];
     let mut eright = [0u64; 256];
     let mut epredicate = [0u32; 256];
@@ -137,13 +138,14 @@ fn run(sheet: &[u8], rounds: u32) {
         &mut mset,
         &mut mplan,
     );
-    print(last);
+    print(rt, last)
 }
 
 // A sheet has at most 21,512 bytes. One byte more is read: with it a longer input has the wrong length for any sheet, as the whole of it has.
-fn main() {
-    let rounds = read_rounds();
+fn main(rt: HostRuntime) -> io::Result<()> {
+    let mut input = rt.stdin();
+    let rounds = read_rounds(&mut input)?;
     let mut bytes = [0u8; 21513];
-    let n = io::read_full(STDIN_FILENO, &mut bytes);
-    run(&bytes[0..n], rounds);
+    let n = reading::read_full(&mut input, &mut bytes)?;
+    run(&rt, &bytes[0..n], rounds)
 }

@@ -4,17 +4,19 @@
 mod cases;
 mod writing;
 
-fn main() {
-    cases::lengths();
-    cases::counts();
-    cases::offsets();
-    cases::leaf_ranges();
-    cases::join_ranges();
-    cases::predicate_ranges();
-    cases::sums();
-    cases::items();
-    cases::predicates();
-    cases::order();
-    cases::leaves();
-    cases::walks();
+use std::io;
+
+fn main(rt: HostRuntime) -> io::Result<()> {
+    cases::lengths(&rt)?;
+    cases::counts(&rt)?;
+    cases::offsets(&rt)?;
+    cases::leaf_ranges(&rt)?;
+    cases::join_ranges(&rt)?;
+    cases::predicate_ranges(&rt)?;
+    cases::sums(&rt)?;
+    cases::items(&rt)?;
+    cases::predicates(&rt)?;
+    cases::order(&rt)?;
+    cases::leaves(&rt)?;
+    cases::walks(&rt)
 }

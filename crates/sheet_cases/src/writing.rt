@@ -1,8 +1,8 @@
 // Sheets written into a lent buffer. Each writer answers where the next word goes; what has no room is left out.
 ghost use Rattle.std.specs.Prelude.{◌≤◌};
 
-use libc::STDOUT_FILENO;
 use sheet_check::SheetAnswer;
+use std::io;
 
 fn byte(buf: &mut [u8], at: usize, b: u8) -> usize {
     if at < buf.len() {
@@ -93,57 +93,75 @@ fn number(answer: SheetAnswer) -> u32 {
 }
 
 // Checks the buffer's first bytes and prints the answer under a name.
-fn show(name: &[u8], buf: &[u8], length: usize) {
+fn show(rt: &impl Print, name: &str, buf: &[u8], length: usize) -> io::Result<()> {
     if buf.len() < length {
-        return;
+        return Ok(());
     }
     let answer = number(sheet_check::check(&buf[0..length]));
-    io::write_all(STDOUT_FILENO, name);
-    io::write_all(STDOUT_FILENO, b": ");
-    io::print_decimal(STDOUT_FILENO, answer as u64);
-    io::write_all(STDOUT_FILENO, b"\n");
+    println!(rt; "{name}: {answer}")
 }
 
 // So many bytes of the joined sheet; past its end they are 0.
-pub fn cut(name: &[u8], length: usize) {
+pub fn cut(rt: &impl Print, name: &str, length: usize) -> io::Result<()> {
     let mut space = [0u8; 128];
     let buf: &mut [u8] = &mut space;
     joined(buf);
-    show(name, buf, length);
+    show(rt, name, buf, length)
 }
 
 // The joined sheet with two words replaced.
-pub fn replaced_two(name: &[u8], at: usize, w: u32, other: usize, v: u32) {
+pub fn replaced_two(
+    rt: &impl Print,
+    name: &str,
+    at: usize,
+    w: u32,
+    other: usize,
+    v: u32,
+) -> io::Result<()> {
     let mut space = [0u8; 128];
     let buf: &mut [u8] = &mut space;
     joined(buf);
     word(buf, at, w);
     word(buf, other, v);
-    show(name, buf, 100);
+    show(rt, name, buf, 100)
 }
 
 // The joined sheet with one word replaced.
-pub fn replaced(name: &[u8], at: usize, w: u32) {
-    replaced_two(name, at, w, at, w);
+pub fn replaced(rt: &impl Print, name: &str, at: usize, w: u32) -> io::Result<()> {
+    replaced_two(rt, name, at, w, at, w)
 }
 
 // A uniform sheet.
-pub fn made(name: &[u8], leaves: u32, joins: u32, predicates: u32, columns: u32)
+pub fn made(
+    rt: &impl Print,
+    name: &str,
+    leaves: u32,
+    joins: u32,
+    predicates: u32,
+    columns: u32,
+) -> io::Result<()>
     requires { (leaves ≤ 9999) × (joins ≤ 9999) × (predicates ≤ 9999) × (columns ≤ 9999) }
 {
-    let mut space = io::large_buffer();
+    let mut space = [0u8; 65536];
     let buf: &mut [u8] = &mut space;
     let length = uniform(buf, leaves, joins, predicates, columns);
-    show(name, buf, length);
+    show(rt, name, buf, length)
 }
 
 // A uniform sheet of leaves and columns with one word replaced.
-pub fn remade(name: &[u8], leaves: u32, columns: u32, at: usize, w: u32)
+pub fn remade(
+    rt: &impl Print,
+    name: &str,
+    leaves: u32,
+    columns: u32,
+    at: usize,
+    w: u32,
+) -> io::Result<()>
     requires { (leaves ≤ 9999) × (columns ≤ 9999) }
 {
-    let mut space = io::large_buffer();
+    let mut space = [0u8; 65536];
     let buf: &mut [u8] = &mut space;
     let length = uniform(buf, leaves, 0, 0, columns);
     word(buf, at, w);
-    show(name, buf, length);
+    show(rt, name, buf, length)
 }

@@ -2,10 +2,11 @@
 // the oracle's checks.bin.
 #![tactic(auto)]
 
-ghost use Rattle.std.specs.Prelude.{◌≡◌, ◌+◌, ◌<◌, ◌≤◌};
+ghost use Rattle.std.specs.Prelude.{◌≡◌, ◌+◌, ◌<◌, ◌≤◌, IfOk};
 
-use libc::STDOUT_FILENO;
 use sheet_check::SheetAnswer;
+use std::io;
+use std::io::Read;
 
 #[derive(Drop)]
 struct Tally {
@@ -21,51 +22,51 @@ fn number(answer: SheetAnswer) -> u32 {
 }
 
 // Counts a record, and prints it where the check's answer is another than expected.
-fn counted(t: Tally, record: &[u8]) -> Tally
+fn counted(rt: &impl Print, t: Tally, record: &[u8]) -> io::Result<Tally>
     requires { (t.records < 1000000) × (t.agree ≤ t.records) }
-    ensures { (result.records ≡ t.records + 1) × (result.agree ≤ result.records) }
+    ensures { IfOk result (λ r. (r.records ≡ t.records + 1) × (r.agree ≤ r.records)) }
 {
     let records = t.records + 1;
     let expected = records::word(records::after_sheet(record), 0);
     let found = number(sheet_check::check(records::sheet_of(record)));
     if expected == found {
-        return Tally {
+        return Ok(Tally {
             records,
             agree: t.agree + 1,
-        };
+        });
     }
-    records::print_number(b"record ", t.records as u64);
-    records::print_number(b": expected ", expected as u64);
-    records::print_number(b", found ", found as u64);
-    io::write_all(STDOUT_FILENO, b"\n");
-    Tally {
+    records::print_number(rt, "record ", t.records as u64)?;
+    records::print_number(rt, ": expected ", expected as u64)?;
+    records::print_number(rt, ", found ", found as u64)?;
+    rt.print("\n")?;
+    Ok(Tally {
         records,
         agree: t.agree,
-    }
+    })
 }
 
 // All records, up to a million.
-fn replay(buf: &mut [u8]) -> Tally {
+fn replay<R: Read>(rt: &impl Print, input: &mut R, buf: &mut [u8]) -> io::Result<Tally> {
     let mut t = Tally {
         records: 0,
         agree: 0,
     };
     while t.records < 1000000 {
-        let n = records::next_record(buf);
+        let n = records::next_record(input, buf)?;
         if n == 0 {
-            return t;
+            return Ok(t);
         }
-        t = counted(t, &buf[..n]);
+        t = counted(rt, t, &buf[..n])?;
     }
-    t
+    Ok(t)
 }
 
-fn main() {
-    let mut space = io::large_buffer();
-    let buf: &mut [u8] = &mut space;
-    records::skip_line();
-    let t = replay(buf);
-    records::print_number(b"", t.records as u64);
-    records::print_number(b" records, ", t.agree as u64);
-    io::write_all(STDOUT_FILENO, b" agree\n");
+fn main(rt: HostRuntime) -> io::Result<()> {
+    let mut space = [0u8; 65536];
+    let mut input = rt.stdin();
+    records::skip_line(&mut input)?;
+    let t = replay(&rt, &mut input, &mut space)?;
+    records::print_number(&rt, "", t.records as u64)?;
+    records::print_number(&rt, " records, ", t.agree as u64)?;
+    rt.print(" agree\n")
 }

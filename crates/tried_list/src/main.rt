@@ -2,28 +2,29 @@
 // left and right set.
 #![tactic(auto)]
 
-use libc::{STDIN_FILENO, STDOUT_FILENO};
 use listing::Written;
+use std::io;
 
-fn print_front(text: &[u8], n: usize) {
+fn print_front(rt: &impl Print, text: &[u8], n: usize) -> io::Result<()> {
     if n <= text.len() {
-        io::write_all(STDOUT_FILENO, &text[0..n]);
+        rt.write_all(&text[0..n])?;
     }
+    Ok(())
 }
 
 // There is room for every text: tried_text says of the printed text's size that it is at most 48,993 bytes.
-fn print_text(sheet: &[u8]) {
+fn print_text(rt: &impl Print, sheet: &[u8]) -> io::Result<()> {
     let mut out = [0u8; 48993];
     let written = tried_text::tried_text(sheet, &mut out);
     match written {
-        Written::Bytes(n) => print_front(&out, n),
-        Written::NoRoom => {}
+        Written::Bytes(n) => print_front(rt, &out, n),
+        Written::NoRoom => Ok(()),
     }
 }
 
 // A sheet has at most 21,512 bytes. One byte more is read: with it a longer input has the wrong length for any sheet, as the whole of it has.
-fn main() {
+fn main(rt: HostRuntime) -> io::Result<()> {
     let mut bytes = [0u8; 21513];
-    let n = io::read_full(STDIN_FILENO, &mut bytes);
-    print_text(&bytes[0..n]);
+    let n = reading::read_full(&mut rt.stdin(), &mut bytes)?;
+    print_text(&rt, &bytes[0..n])
 }

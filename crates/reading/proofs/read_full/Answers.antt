@@ -19,8 +19,8 @@ loop-done-preserved g c =
     record {
       within = search rules;
       given =
-        subst
-        (Consumes _ _)
-        (sym (grown c.loop-done.done _ c.in_ok-n.n c.loop-done.buf c.read.new.buf c.loop-done.invariant.within c.in_ok-n.ensures.bound.0))
-        (Consumes-trans _ _ _ _ _ c.loop-done.invariant.given c.in_ok-n.ensures.bytes.0);
+          subst
+          (Consumes _ _)
+          (sym (grown c.loop-done.done _ c.in_ok-n.n c.loop-done.buf c.read.new.buf c.loop-done.invariant.within c.in_ok-n.ensures.bound.0))
+          (Consumes-trans _ _ _ _ _ c.loop-done.invariant.given c.in_ok-n.ensures.bytes.0);
     }
