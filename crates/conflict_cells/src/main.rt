@@ -15,7 +15,7 @@ fn cell(table: u32, a: u32, b: u32) -> Compatibility {
 
 fn print_cell(rt: &impl Print, table: u32, a: u32, b: u32) -> io::Result<()> {
     match cell(table, a, b) {
-        Compatibility::Cell(yes) => { if yes { rt.print("+") } else { rt.print("-") } }
+        Compatibility::Cell(yes) => rt.print(if yes { "+" } else { "-" }),
         Compatibility::UnknownType => rt.print("4"),
     }
 }

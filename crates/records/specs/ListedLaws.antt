@@ -3,7 +3,7 @@
 use Prim.Native.Nat.{ℕ, zero, suc, ◌+◌, ◌-◌, ◌≤◌, ◌<◌}
 use Rattle.std.specs.Prelude.{Bool, true, false, ◌&&◌, not, List, [], ◌∷◌, ◌≡◌, refl, length, get_or, drop}
 use Rattle.std.proofs.lemmas.Bool.{false≢true, not-true, not-false}
-use Rattle.std.proofs.Math.Bool.{and-true, and_false}
+use Rattle.std.proofs.Math.Bool.{and-true, and-false}
 use Rattle.std.proofs.Math.Path.{sym, ap}
 use Rattle.std.proofs.Common.{◌∙◌, drop_of_length-le, add-one}
 use Rattle.std.proofs.Math.Seq.{drop-cons}
@@ -18,7 +18,7 @@ unfolding begins
 begins_short is at step zero xs h = absurd (omega arith)
 begins_short is at step (suc n) [] h = refl
 begins_short is at step (suc n) (x ∷ xs) h =
-    sym (and_false (is at x)) ∙ ap (λ (b : Bool). is at x && b) (begins_short is (at + step) step n xs (omega arith))
+    sym (and-false (is at x)) ∙ ap (λ (b : Bool). is at x && b) (begins_short is (at + step) step n xs (omega arith))
 
 module _ {A : Type 0} (is : ℕ → A → Bool) (at step n : ℕ) (xs : List A) where
   -- up to place i all are as recorded: from there on, at byte `here`, the answer is that for the whole
@@ -76,7 +76,7 @@ pub all_fails : (bs : List Bool) (k : ℕ) (r : Bool) → not r ≡ true → r �
 unfolding every all_of
 all_fails [] k r t e = absurd (false≢true (sym (not-true r t) ∙ e))
 all_fails (b ∷ bs) zero r t e = ap (λ (x : Bool). x && all_of bs) (sym (not-true r t) ∙ e)
-all_fails (b ∷ bs) (suc k) r t e = sym (and_false b) ∙ ap (λ (x : Bool). b && x) (all_fails bs k r t e)
+all_fails (b ∷ bs) (suc k) r t e = sym (and-false b) ∙ ap (λ (x : Bool). b && x) (all_fails bs k r t e)
 
 -- the first holds, and the others decide
 pub all_next : (b : Bool) (bs : List Bool) (r s : Bool) → not r ≡ false → r ≡ b → s ≡ all_of bs → s ≡ all_of (b ∷ bs)

@@ -1,12 +1,11 @@
 use borrow.Author.Rules.{rules}
 use Prim.Native.Nat.{◌*◌}
-use Rattle.records.proofs.lists.bits.Statement.{statement}
-use Rattle.records.proofs.lists.bits.Tie as tie
 use mathlib.Core.Bool.{true, false, not, false≢true}
 use mathlib.Core.Path.{◌≡◌, refl, sym, ◌∙◌}
 use lib.Dec.{T}
 use borrow.Author.Tests.{eq-eqb}
 use lib.Ieee.{Float, nan, inf, fin, up, down, binary64, eq, is_nan, to_bits}
+use Rattle.records.proofs.lists.bits.Goals as goal
 
 -- a NaN is not equal to itself
 no_nan : (x : Float) → eq x x ≡ true → T (not (is_nan x))
@@ -24,14 +23,8 @@ nan-bits (inf false) e = absurd (false≢true (sym e))
 nan-bits (fin true m k) e = absurd (false≢true (sym e ∙ rw (eq-eqb (m * up k * down k) (m * up k * down k) refl)))
 nan-bits (fin false m k) e = absurd (false≢true (sym e ∙ rw (eq-eqb (m * up k * down k) (m * up k * down k) refl)))
 
-float-to-bits-result : tie.Need-float-to-bits-result
-float-to-bits-result c = no_nan c.before.args.x c.if1.true
+pub float_to_bits-result : goal.float_to_bits-result
+float_to_bits-result c = no_nan c.args.x c.if-x.true
 
-returns : tie.Need-returns
-returns c = search rules
-
-returns-2 : tie.Need-returns-2
-returns-2 c = nan-bits c.before.args.x c.if1.false
-
-pub bits-spec : {M : Type 1} → statement M
-bits-spec = tie.close (tie.spec float-to-bits-result returns returns-2)
+pub returns-else-x : goal.returns-else-x
+returns-else-x c = nan-bits c.args.x c.if-x.false

@@ -1,0 +1,37 @@
+use borrow.Author.Rules.{rules}
+use borrow.Author.Tests.{eq-eqb, ne_eqb}
+use mathlib.Core.Bool.{true, false}
+use mathlib.Core.Path.{sym, ◌∙◌}
+use native.Mathlib.Omega.{arith}
+use Prim.Native.Nat.{◌+◌, ◌*◌, ◌-◌, ◌≤◌}
+use Rattle.records.specs.Listed.{is_number}
+use Rattle.records.specs.ListedLaws.{Begun, begins_short, begun, begun_turn, begun_end}
+use Rattle.records.proofs.lists.begins_numbers.Goals as goal
+
+pub returns-then-list-n : goal.returns-then-list-n
+returns-then-list-n c =
+    let a = c.args in
+    begins_short (is_number a.bytes.now) a.at a.step a.n a.list.now (omega arith)
+
+pub loop-i-init : goal.loop-i-init
+loop-i-init c =
+    let a = c.args in
+    (omega arith, omega arith, begun (is_number a.bytes.now) a.at a.step a.n a.list.now)
+
+pub returns-then-bits-long : goal.returns-then-bits-long
+returns-then-bits-long c =
+    let a = c.args in
+    let w = c.loop-i in
+    begun_turn (is_number a.bytes.now) a.at a.step a.n a.list.now w.here w.i w.invariant.2 _ (omega arith) (omega arith) false (ne_eqb _ _ (λ e. c.if-bits-long.true (c.bits.ensures ∙ e ∙ sym c.long.ensures)))
+
+pub loop-i-preserved : goal.loop-i-preserved
+loop-i-preserved c =
+    let a = c.args in
+    let w = c.loop-i in
+    (omega arith, omega arith, begun_turn (is_number a.bytes.now) a.at a.step a.n a.list.now w.here w.i w.invariant.2 _ (omega arith) (omega arith) true (eq-eqb _ _ (sym c.bits.ensures ∙ c.if-bits-long.false ∙ c.long.ensures)))
+
+pub returns : goal.returns
+returns c =
+    let a = c.args in
+    let w = c.loop-i in
+    begun_end (is_number a.bytes.now) a.at a.step a.n a.list.now w.here w.i w.invariant.2 (omega arith)
