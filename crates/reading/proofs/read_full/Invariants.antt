@@ -1,5 +1,5 @@
 -- What was put at the start of the buffer is what the reader gave.
-use Rattle.std.proofs.Common.{◌≡◌, ◌-◌, ◌≤◌, length, take}
+use Rattle.std.proofs.Common.{◌-◌, ◌≤◌, length, take}
 use Rattle.std.specs.Io.KnownBytes.{Consumes}
 use Rattle.reading.proofs.read_full.Given as goal
 

@@ -1,11 +1,6 @@
-use borrow.Author.Rules.{rules}
-use borrow.Author.Tests.{eq-eqb, ne_eqb}
-use mathlib.Core.Bool.{true, false}
-use mathlib.Core.Path.{sym, ◌∙◌}
-use native.Mathlib.Omega.{arith}
 use Prim.Native.Nat.{◌+◌, ◌*◌, ◌-◌, ◌≤◌}
 use Rattle.records.specs.Listed.{is_number}
-use Rattle.records.specs.ListedLaws.{Begun, begins_short, begun, begun_turn, begun_end}
+use Rattle.records.specs.ListedLaws.{Begun}
 use Rattle.records.proofs.lists.begins_numbers.Given as goal
 
 abbrev pub invariant-loop-i : goal.invariant-loop-i

@@ -1,12 +1,9 @@
-use borrow.Author.Rules.{rules}
 use borrow.Author.Tests.{eq-eqb, ne_eqb}
 use mathlib.Core.Bool.{true, false}
 use mathlib.Core.Path.{refl}
 use native.Mathlib.Omega.{arith}
-use Prim.Native.Nat.{◌-◌}
-use lib.ListN.{length}
 use Rattle.records.specs.Listed.{blank_long}
-use Rattle.records.specs.ListedLaws.{Passed, passed_turn, passed_end}
+use Rattle.records.specs.ListedLaws.{passed_turn, passed_end}
 use Rattle.records.proofs.lists.rest_longs.Goals as goal
 
 pub loop-i-init : goal.loop-i-init

@@ -1,4 +1,3 @@
-use borrow.Author.Rules.{rules}
 use Rattle.records.specs.Listed.{longs_listed}
 use Rattle.records.specs.ListedLaws.{both, first_fails}
 use Rattle.records.proofs.lists.same_longs.Goals as goal
