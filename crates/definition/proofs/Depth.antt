@@ -14,8 +14,9 @@ use Rattle.std.specs.Int.Count.{ones, ones_step}
 use Rattle.nodeset.specs.Sets.{bit, within, disjoint, singleton, lowest, all_below, up_to_lowest}
 use Rattle.nodeset.specs.SetLaws.{bit-zero, bit-suc, bit_high, Lowest, lowest_of, singleton_is, all_below_is, Apart, In}
 use Rattle.nodeset.specs.Subsets.{subsets_of, non_empty_subsets, singletons}
-use Rattle.nodeset.specs.SubsetLaws.{All, subsets_in, subsets_within}
-use Rattle.nodeset.specs.SingletonLaws.{singletons_in}
+use Rattle.nodeset.specs.SubsetLaws.{All}
+use Rattle.nodeset.proofs.SubsetLaws.{subsets_in, subsets_within}
+use Rattle.nodeset.proofs.SingletonLaws.{singletons_in}
 use Rattle.definition.specs.Hypergraph.{Edge, beyond, neighborhood}
 use Rattle.definition.specs.Walk.{each, try_connected, enumerate_cmp_rec, emit_csg, emit_kept, enumerate_csg_rec, solve_from, solve}
 use Rattle.definition.proofs.WalkLaws.{Sided, neighborhood_apart, neighborhood-set}

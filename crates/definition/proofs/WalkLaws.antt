@@ -11,8 +11,9 @@ use Rattle.std.proofs.Math.Pow.{pow-lt}
 use Rattle.nodeset.specs.Sets.{bit, within, disjoint, singleton, lowest, all_below, up_to_lowest}
 use Rattle.nodeset.specs.SetLaws.{bit-or, bit_empty, bit_one_cases, Lowest, lowest_of, singleton_is, Apart, In, disjoint_apart}
 use Rattle.nodeset.specs.Subsets.{non_empty_subsets, singletons}
-use Rattle.nodeset.specs.SubsetLaws.{All, subsets_in}
-use Rattle.nodeset.specs.SingletonLaws.{singletons_in}
+use Rattle.nodeset.specs.SubsetLaws.{All}
+use Rattle.nodeset.proofs.SubsetLaws.{subsets_in}
+use Rattle.nodeset.proofs.SingletonLaws.{singletons_in}
 use Rattle.definition.specs.Hypergraph.{Edge, beyond, neighborhood, has_edge}
 pub use Rattle.definition.specs.Hypergraph.{Sided}
 use Rattle.definition.specs.Walk.{each, try_connected, enumerate_cmp_rec, emit_csg, emit_kept, enumerate_csg_rec, solve_from, solve}

@@ -2,4 +2,3 @@ pub mod Sets
 pub mod Subsets
 pub mod SetLaws
 pub mod SubsetLaws
-pub mod SingletonLaws

@@ -6,8 +6,9 @@ use Rattle.std.proofs.Common.{sym, ap, ◌∙◌, subst, arith, eq-eqb, ne_eqb, 
 use Rattle.std.proofs.lemmas.Bool.{eqb-false}
 use Rattle.nodeset.specs.Sets.{singleton, highest, difference, all_below}
 use Rattle.nodeset.specs.Subsets.{non_empty_subsets, singletons, next_subset}
-use Rattle.nodeset.specs.SubsetLaws.{Steps, subsets_steps, next_last}
-use Rattle.nodeset.specs.SingletonLaws.{singletons_step, rest_less, singletons_none}
+use Rattle.nodeset.specs.SubsetLaws.{Steps}
+use Rattle.nodeset.proofs.SubsetLaws.{subsets_steps, next_last}
+use Rattle.nodeset.proofs.SingletonLaws.{singletons_step, rest_less, singletons_none}
 use Rattle.definition.specs.Walk.{each}
 use Rattle.stepping.specs.Next.{subset_after, leaves_after, count_after}
 
