@@ -13,7 +13,7 @@ use nodeset::{NONE, PlanId};
 use store::{DPhyp, Found, Kept};
 
 // A candidate's memo entry: its position, the plan that it is to name, and the number of entries with it.
-#[derive(Drop)]
+#[derive(Clone, Copy)]
 pub struct Place {
     pub position: u32,
     pub best: PlanId,

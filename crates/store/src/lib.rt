@@ -16,7 +16,7 @@ pub use numbers::{at32, put32};
 pub use sets::{find, put64};
 
 // The search's counts: plans and memo entries written, and visits made. stop is 0 while the search goes on, and then its answer's number.
-#[derive(Drop)]
+#[derive(Clone, Copy)]
 pub struct DPhyp {
     pub plans: u32,
     pub memo: u32,
