@@ -25,14 +25,14 @@ module _ (bs : List ℕ) (bytes : Bytes bs) (limit : ℕ) (h : Lent) (r : Report
   open_list : OpenList bs limit h r l
   open_list a = subst (OpenListRule bs (rooms_in h) limit) (sym reads) (open_list_rule bs bytes (rooms_in h) limit a)
 
-  kept-plans : KeptPlans bs limit h r l
-  kept-plans a = subst (CallPlanRule bs (rooms_in h) limit) (sym reads) (plan_rule bs bytes (rooms_in h) limit a)
+  kept_plans : KeptPlans bs limit h r l
+  kept_plans a = subst (CallPlanRule bs (rooms_in h) limit) (sym reads) (plan_rule bs bytes (rooms_in h) limit a)
 
   finite_costs : FiniteCosts bs r l
   finite_costs = subst AllFinite (sym reads) (call_finite bs bytes (rooms_in h) limit)
 
   pub planned : Planned bs limit h r l
-  planned = record { answer = answer; lists = lists; open_list = open_list; kept-plans = kept-plans; finite_costs = finite_costs }
+  planned = record { answer = answer; lists = lists; open_list = open_list; kept_plans = kept_plans; finite_costs = finite_costs }
 
 -- two calls, on sheets that differ only in leaf rows and selectivities, with lists equally long and the same limit, whatever these held before
 pub two_calls : (bs cs : List ℕ) → Bytes cs → SameOpenBytes bs cs → SelectivitiesFit cs → (limit : ℕ) (h k : Lent) → rooms_in h ≡ rooms_in k → accepted bs (rooms_in h) ≡ true

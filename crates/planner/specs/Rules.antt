@@ -30,7 +30,7 @@ pub record Planned (bs : List ℕ) (limit : ℕ) (h : Lent) (r : Report) (l : Le
   -- "its former bytes after answers 1 to 11, and after every other answer exactly the edges, plans and memo entries made so far, with the
   -- remaining places untouched"
   pub lists : l ≡ holds (call bs (rooms_in h) limit) h
-  -- demand 3: the open_list rule, and the plan rule
+  -- demand 3: the open-list rule, and the plan rule
   pub open_list : OpenList bs limit h r l
-  pub kept-plans : KeptPlans bs limit h r l
+  pub kept_plans : KeptPlans bs limit h r l
   pub finite_costs : FiniteCosts bs r l
