@@ -3,7 +3,7 @@ use Rattle.std.specs.Prelude.{◌≡◌, refl, ◌⊎◌, Bool, true, false, ◌
 use Rattle.std.proofs.Common.{sym, ap, ap₂, ◌∙◌, inl, inr, arith, leb-true, leb-false, ne_eqb}
 use Rattle.definition.specs.Lists.{member}
 use Rattle.definition.specs.Answers.{unknown_kind}
-use Rattle.definition.specs.Tables.{Asked, cell, refused, asked, pairs, assoc, l_asscom, r_asscom}
+use Rattle.definition.specs.Tables.{cell, refused, asked, pairs, assoc, l_asscom, r_asscom}
 use Rattle.tes.specs.Views.{allows}
 
 -- every number is a type's

@@ -10,7 +10,7 @@ ghost use Rattle.tes.specs.Views.{allows, Linked, Gained, WidenedLeft, WidenedRi
 use conflict::Compatibility;
 
 // An earlier join: its type, the leaves of its two sides, and its record sets.
-#[derive(Drop)]
+#[derive(Clone, Copy)]
 struct JoinRecord {
     join_type: u32,
     left_nodes: u64,
