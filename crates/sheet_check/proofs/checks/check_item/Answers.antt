@@ -24,7 +24,7 @@ inside bs s p x k g t e = sym (e ∙ ap₂ fits g (t ∙ ap (table_count s) k �
 pub returns-then-kind-gt9 : goal.returns-then-kind-gt9
 returns-then-kind-gt9 c =
     let q = question_of c.args.sheet.now in
-    sym (item_unknown q (item q c.args.i) (omega (arith, c.item_kind-kind.ensures, c.if-kind-gt9.true)))
+    sym (item_unknown q (item q c.args.i) (omega arith))
 
 pub returns-then-reserved_is_set : goal.returns-then-reserved_is_set
 returns-then-reserved_is_set c =
