@@ -13,7 +13,7 @@ use Rattle.std.proofs.lemmas.Bool.{eqb-false}
 use Rattle.nodeset.specs.Sets.{bit, singleton, disjoint}
 use Rattle.nodeset.specs.SetLaws.{Apart, bit-lt, bit-and, bit_one, bit_one_cases, bit_empty, singleton_is, apart_disjoint}
 use Rattle.definition.specs.Lists.{tabulate, member, concat_map}
-use Rattle.definition.specs.ListLaws.{tabulate-at, tabulate_end}
+use Rattle.definition.proofs.ListLaws.{tabulate-at, tabulate_end}
 use Rattle.definition.specs.Question.{Range, Predicate, part, predicate, open_question}
 use Rattle.definition.specs.Sheet.{question_of}
 use Rattle.definition.specs.Edges.{holder, holders, side_set}
@@ -91,22 +91,22 @@ held_by s k h e = rw (in_side s k h e)
 -- ---- the lowest leaf with a column, from leaf k on
 
 module _ (n : ℕ) (f : ℕ → List ℕ) (s c k : ℕ) where
-  abbrev ls : List (List ℕ)
-  ls = drop k (tabulate n f)
+  abbrev from_k : List (List ℕ)
+  from_k = drop k (tabulate n f)
 
-  next : k < n → holder k ls s c ≡ elim (eqb (bit s k) 1 && member c (f k)) [ true ↦ singleton k | false ↦ holder (k + 1) (drop (k + 1) (tabulate n f)) s c ]
+  next : k < n → holder k from_k s c ≡ elim (eqb (bit s k) 1 && member c (f k)) [ true ↦ singleton k | false ↦ holder (k + 1) (drop (k + 1) (tabulate n f)) s c ]
   unfolding holder
   next h =
       ap (λ (l : List (List ℕ)). holder k l s c) (tabulate-at n f k h)
       ∙ ap (λ (j : ℕ). elim (eqb (bit s k) 1 && member c (f k)) [ true ↦ singleton k | false ↦ holder j (drop j (tabulate n f)) s c ]) (sym (add-one k))
 
-  pub holder_hit : k < n → true ≡ (eqb (bit s k) 1 && member c (f k)) → singleton k ≡ holder k ls s c
+  pub holder_hit : k < n → true ≡ (eqb (bit s k) 1 && member c (f k)) → singleton k ≡ holder k from_k s c
   holder_hit h m = sym (next h ∙ rw (sym m))
 
-  pub holder_miss : k < n → false ≡ (eqb (bit s k) 1 && member c (f k)) → holder (k + 1) (drop (k + 1) (tabulate n f)) s c ≡ holder k ls s c
+  pub holder_miss : k < n → false ≡ (eqb (bit s k) 1 && member c (f k)) → holder (k + 1) (drop (k + 1) (tabulate n f)) s c ≡ holder k from_k s c
   holder_miss h m = sym (next h ∙ rw (sym m))
 
-  pub holder_none : n ≤ k → k ≤ n → 0 ≡ holder k ls s c
+  pub holder_none : n ≤ k → k ≤ n → 0 ≡ holder k from_k s c
   unfolding holder
   holder_none h g =
       let e : k ≡ n = omega arith in
