@@ -30,7 +30,7 @@ pub const TES_LEFT: usize = 192;
 // Where the joins' right record sets begin in sets.
 pub const TES_RIGHT: usize = 256;
 
-#[derive(Drop)]
+#[derive(Clone, Copy)]
 pub struct HypergraphBuilder {
     pub edges: usize,
     pub joins: usize,

@@ -19,7 +19,7 @@ use sheet::{Range, Sections};
 use tes::Sides;
 
 // A join as the walk finds it: the item's number and kind, its predicates, and its whole sides.
-#[derive(Drop)]
+#[derive(Clone, Copy)]
 pub struct JoinItem {
     pub number: u32,
     pub kind: u32,

@@ -19,7 +19,7 @@ struct JoinRecord {
     tes_right: u64,
 }
 
-#[derive(Drop)]
+#[derive(Clone, Copy)]
 pub struct Sides {
     pub left: u64,
     pub right: u64,
