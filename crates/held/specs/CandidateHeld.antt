@@ -1,5 +1,5 @@
 -- emit_csg_cmp on the lent lists is emit_csg_cmp of the definition, written into them. Assumes nothing.
-use Rattle.std.specs.Prelude.{◌≡◌, Bool, true, false, ◌||◌, ℕ, zero, suc, ◌+◌, ◌<◌, ◌≤◌, length, get_or, set, drop, ltb, eqb, Float}
+use Rattle.std.specs.Prelude.{◌≡◌, Bool, true, false, ◌||◌, ℕ, zero, suc, ◌<◌, ◌≤◌, length, get_or, set, drop, ltb, eqb, Float}
 use Rattle.std.proofs.Math.Path.{refl, sym, ap, ap₂}
 use Rattle.std.proofs.Common.{◌∙◌, subst, arith, add-one, drop-cons}
 use mathlib.Core.List.{List, [], ◌∷◌, ◌++◌, map, map-append}

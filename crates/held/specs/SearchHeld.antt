@@ -1,5 +1,5 @@
 -- The search on the lent lists is the search of the definition, written into them. Assumes nothing.
-use Rattle.std.specs.Prelude.{◌≡◌, List, [], ◌∷◌, ◌++◌, Bool, true, false, ◌||◌, ℕ, suc, ◌+◌, ◌<◌, ◌≤◌, length, drop, ltb, eqb}
+use Rattle.std.specs.Prelude.{◌≡◌, List, [], ◌∷◌, ◌++◌, Bool, true, false, ◌||◌, ℕ, suc, ◌<◌, ◌≤◌, length, drop, ltb, eqb}
 use Rattle.std.proofs.Math.Path.{refl}
 use Rattle.std.proofs.Common.{sym, ap, ◌∙◌, arith, add-one, length-append, eqb-true, ltb-true, ltb-false}
 use Rattle.std.proofs.Math.Option.{Option, none, some}
