@@ -30,5 +30,5 @@ returns c =
           crossed a.j.number a.j.left a.j.right (build_of sheet (state a.b (edge_lists a.left.now a.right.now a.predicate.now a.source.now a.kind.now) a.numbers.now a.sets.now)) left right
           (edge_built sheet a.b (edge_lists a.left.now a.right.now a.predicate.now a.source.now a.kind.now) edges a.numbers.now a.sets.now (edge_of sides none32 a.j.number 0) x.ensures.counts x.ensures.edges)
           (ap (λ (b : HypergraphBuilder). build_of sheet (state b edges c.add_join.new.numbers c.add_join.new.sets)) y.ensures.counts ∙ y.ensures.built sheet edges);
-      rest = added_to (sym (ap (λ (b : HypergraphBuilder). b.edges) (y.ensures.counts ∙ ap one_join x.ensures.counts))) x.ensures.rest;
+      rest = added_to {g = edges} (sym (ap (λ (b : HypergraphBuilder). b.edges) (y.ensures.counts ∙ ap one_join x.ensures.counts))) x.ensures.rest;
     }

@@ -11,6 +11,8 @@ use Rattle.definition.specs.Question.{open_question}
 use native.Mathlib.Omega.{arith}
 use Prim.Native.Nat.{ℕ, ◌-◌}
 use mathlib.Core.Path.{◌≡◌, refl, sym, ap, ◌∙◌}
+use Rattle.joins.specs.Joins.{Ready}
+use Rattle.std.proofs.Common.{rules}
 use Rattle.joins.proofs.inner_edges.Goals as goal
 
 pub loop-rest-init : goal.loop-rest-init
@@ -24,11 +26,12 @@ pub sides-x-requires : goal.sides-x-requires
 sides-x-requires c =
     let o = c.loop-rest in
     let named = c.requires.sheet.1 in
-    let ready = ready_after c.args.sheet.now c.args.b _ o.invariant.2 c.requires.held.0 in
-    let held : Longer o.c.edges (edge_lists o.left o.right o.predicate o.source o.kind) = longer_added o.invariant.3 (omega (arith, edges-counted c.args.b _ o.invariant.2, o.invariant.0)) c.requires.held.1 in
+    let counts = edges-counted c.args.b _ o.invariant.2 in
+    let ready : Ready c.args.sheet.now o.c c.args.numbers.now c.args.sets.now = ready_after c.args.sheet.now c.args.b _ o.invariant.2 c.requires.held.0 in
+    let held : Longer o.c.edges (edge_lists o.left o.right o.predicate o.source o.kind) = longer_added o.invariant.3 (omega (arith, counts, o.invariant.0)) c.requires.held.1 in
     record {
       sheet = (c.requires.sheet.0, record { inside = omega (arith, named.inside, o.invariant.1, c.loop-rest-test.true); ranges = named.ranges });
-      held = (ready, held.left, held.right);
+      held = (search rules, omega (arith, held.left, counts), omega (arith, held.right, counts));
     }
 
 pub add_edge-c-requires : goal.add_edge-c-requires

@@ -36,5 +36,5 @@ returns c =
           joined (open_question (question_of sheet)) a.j.number a.j.kind _ (range_of a.j.predicates) a.j.left a.j.right (sides_of x.result) (build_of sheet (state a.b (edge_lists a.left.now a.right.now a.predicate.now a.source.now a.kind.now) a.numbers.now a.sets.now)) type
           (x.ensures a.predicate.now a.source.now a.kind.now)
           (ap (λ (b : HypergraphBuilder). build_of sheet (state b edges c.add_join.new.numbers c.add_join.new.sets)) y.ensures.counts ∙ y.ensures.built sheet edges ∙ ap noted (ap (λ (b : HypergraphBuilder). build_of sheet (state b edges a.numbers.now a.sets.now)) e.ensures.counts ∙ e.ensures.built));
-      rest = added_to (sym (ap (λ (b : HypergraphBuilder). b.edges) (y.ensures.counts ∙ ap one_join e.ensures.counts))) e.ensures.rest;
+      rest = added_to {g = edges} (sym (ap (λ (b : HypergraphBuilder). b.edges) (y.ensures.counts ∙ ap one_join e.ensures.counts))) e.ensures.rest;
     }
