@@ -6,7 +6,7 @@ export LC_ALL=C
 
 root=$(cd "$(dirname "$0")/.." && pwd)
 work=$root/target/bench
-planner=("$root/target/bin/plan_rounds")
+planner=("$root/crates/plan_rounds/out/plan_rounds")
 rust=("$root/oracle/target/oracle-bench" rounds)
 counted=("$root/oracle/target/oracle-counted" rounds)
 turns=31            # processes of each side, in turn
@@ -92,7 +92,7 @@ ratio() {
     awk -v a="$1" -v b="$2" 'BEGIN { printf "%.2f", a / b }'
 }
 
-(cd "$root" && rt check plan_rounds) >&2
+(cd "$root" && rt run plan_rounds) >&2
 "$root/oracle/build.sh" bench >&2
 mkdir -p "$work"
 sheets=$("$root/oracle/target/oracle" bench-sheets "$work/sheets")

@@ -28,7 +28,7 @@ replay)
     # The counted copy writes the same, and holds the visits in it to its own.
     "$here/target/oracle-counted" fresh "$made/counted" "$seed" >/dev/null
     cmp "$made/unchanged/calls.bin" "$made/counted/calls.bin"
-    "$here/../target/bin/call_vectors" <"$made/unchanged/calls.bin" | awk '
+    "$here/../crates/call_vectors/out/call_vectors" <"$made/unchanged/calls.bin" | awk '
         { print } $NF != "agree" || $1 != $(NF - 2) { differs = 1 } END { exit differs }'
     ;;
 survey | plan)
