@@ -35,7 +35,7 @@ impl Refusal {
 }
 
 // The lengths of the three stores.
-#[derive(Drop)]
+#[derive(Clone, Copy)]
 pub struct Rooms {
     pub edges: u32,
     pub plans: u32,
