@@ -18,7 +18,7 @@ use nodeset::{NodeId, PlanId};
 use store::{DPhyp, Kept};
 
 // The chosen plan, or why there is none.
-#[derive(Drop)]
+#[derive(Clone, Copy)]
 pub enum Ending {
     Planned(PlanId),
     NoPlan,
