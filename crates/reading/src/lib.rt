@@ -1,9 +1,8 @@
 // Fills a lent buffer from a reader. Nothing is allocated.
 #![tactic(auto)]
 
-ghost use Rattle.std.specs.Prelude.{◌<◌, length, take, IfOk};
+ghost use Rattle.std.specs.Prelude.{◌≡◌, length, take, drop, IfSome, IfOk, OnOk};
 ghost use Rattle.std.specs.Io.{ReadsAtMost};
-ghost use Rattle.std.specs.Io.KnownBytes.{Consumes, IsAtEnd};
 
 use std::io;
 use std::io::Read;
@@ -11,8 +10,8 @@ use std::io::Read;
 // Reads until buf is full or the input ends, and answers how many bytes it put at the start of buf. On an empty buf it makes no call.
 pub fn read_full<R: Read>(input: &mut R, buf: &mut [u8]) -> io::Result<usize>
     ensures bound { ReadsAtMost result buf.new }
-    ensures bytes { IfOk result (λ n. Consumes (R.remaining input.old) (R.remaining input.new) (take n buf.new)) }
-    ensures end { IfOk result (λ n. n < length buf.new → IsAtEnd (R.remaining input.new)) }
+    ensures front { IfOk result (λ n. IfSome (R.remaining input.old) (λ bs. take n buf.new ≡ take (length buf.old) bs)) }
+    ensures rest { OnOk result (IfSome (R.remaining input.old) (λ bs. R.remaining input.new ≡ Some (drop (length buf.old) bs))) }
 {
     let mut done = 0;
     while done < buf.len() {

@@ -6,9 +6,9 @@ mod call;
 mod entries;
 mod lists;
 
-ghost use Rattle.std.specs.Prelude.{◌≡◌};
+ghost use Rattle.std.specs.Prelude.{◌≡◌, ◌+◌, ◌<◌, length, take, drop, IfSome, IfOk, OnOk};
 ghost use Rattle.std.specs.Io.{ReadsAtMost};
-ghost use Rattle.records.specs.Records.{word_at, long_at, sheet_of, after_sheet};
+ghost use Rattle.records.specs.Records.{word_at, long_at, sheet_of, after_sheet, line_goes_on, after_line, record_in};
 
 pub use call::{Places, limit, list_length, places_in};
 pub use entries::{same_edges, same_memo, same_plans};
@@ -47,14 +47,19 @@ pub fn long(bytes: &[u8], at: usize) -> u64
 }
 
 // Reads one byte, and answers whether the line goes on.
-fn goes_on<R: Read>(input: &mut R) -> io::Result<bool> {
+fn goes_on<R: Read>(input: &mut R) -> io::Result<bool>
+    ensures value { IfOk result (λ more. IfSome (R.remaining input.old) (λ bs. more ≡ line_goes_on bs)) }
+    ensures rest { OnOk result (IfSome (R.remaining input.old) (λ bs. R.remaining input.new ≡ Some (drop 1 bs))) }
+{
     let mut one = [0u8; 1];
     let got = reading::read_full(input, &mut one)?;
     Ok(got == 1 && one[0] != 10)
 }
 
 // Reads the line of text, of at most 4,096 bytes.
-pub fn skip_line<R: Read>(input: &mut R) -> io::Result<()> {
+pub fn skip_line<R: Read>(input: &mut R) -> io::Result<()>
+    ensures { OnOk result (IfSome (R.remaining input.old) (λ bs. R.remaining input.new ≡ Some (after_line 4096 bs))) }
+{
     let mut left: u32 = 4096;
     while left > 0 && goes_on(input)? {
         left -= 1;
@@ -63,7 +68,10 @@ pub fn skip_line<R: Read>(input: &mut R) -> io::Result<()> {
 }
 
 // The next record's whole length; 0 where the input ends.
-fn next_length<R: Read>(input: &mut R) -> io::Result<u32> {
+fn next_length<R: Read>(input: &mut R) -> io::Result<u32>
+    ensures value { IfOk result (λ n. IfSome (R.remaining input.old) (λ bs. n ≡ word_at bs 0)) }
+    ensures rest { OnOk result (IfSome (R.remaining input.old) (λ bs. R.remaining input.new ≡ Some (drop 4 bs))) }
+{
     let mut head = [0u8; 4];
     let got = reading::read_full(input, &mut head)?;
     if got < 4 {
@@ -75,7 +83,9 @@ fn next_length<R: Read>(input: &mut R) -> io::Result<u32> {
 // Reads a record without its first word to the start of buf, and answers how many bytes it has; 0 where the input ends, or has no whole
 // record that buf has room for.
 pub fn next_record<R: Read>(input: &mut R, buf: &mut [u8]) -> io::Result<usize>
-    ensures { ReadsAtMost result buf.new }
+    ensures bound { ReadsAtMost result buf.new }
+    ensures value { IfOk result (λ n. IfSome (R.remaining input.old) (λ bs. take n buf.new ≡ record_in (length buf.old) bs)) }
+    ensures rest { IfOk result (λ n. 0 < n → IfSome (R.remaining input.old) (λ bs. R.remaining input.new ≡ Some (drop (n + 4) bs))) }
 {
     let length = next_length(input)? as usize;
     if length < 4 {
