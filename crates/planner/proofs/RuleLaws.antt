@@ -11,7 +11,7 @@ use Rattle.answer.specs.declared.Report.{Report}
 use Rattle.answer.specs.Answers.{reported}
 use Rattle.run.specs.Lent.{Lent, rooms_in, holds}
 use Rattle.planner.specs.ReadBack.{read_back}
-use Rattle.planner.specs.ReadBackLaws.{read_back_lem}
+use Rattle.planner.proofs.ReadBackLaws.{read_back_lem}
 use Rattle.planner.specs.Rules.{OpenList, KeptPlans, FiniteCosts, Planned}
 
 module _ (bs : List ℕ) (bytes : Bytes bs) (limit : ℕ) (h : Lent) (r : Report) (l : Lent)

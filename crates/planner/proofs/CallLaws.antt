@@ -17,7 +17,7 @@ use Rattle.answer.specs.declared.Report.{Report}
 use Rattle.answer.specs.Answers.{reported, reported_of}
 use Rattle.run.specs.Lent.{Lent, rooms_in, holds}
 use Rattle.planner.specs.Rules.{Planned}
-use Rattle.planner.specs.RuleLaws.{planned}
+use Rattle.planner.proofs.RuleLaws.{planned}
 
 refusal_positive : (f : Refusal) → 0 < refusal_number f
 refusal_positive (Sheet f) = positive f

@@ -1,0 +1,4 @@
+-- Laws.
+pub mod ReadBackLaws
+pub mod RuleLaws
+pub mod CallLaws
