@@ -92,7 +92,7 @@ ratio() {
     awk -v a="$1" -v b="$2" 'BEGIN { printf "%.2f", a / b }'
 }
 
-(cd "$root" && rt run plan_rounds) >&2
+(cd "$root/crates/plan_rounds" && rt run <stdin) >&2
 "$root/oracle/build.sh" bench >&2
 mkdir -p "$work"
 sheets=$("$root/oracle/target/oracle" bench-sheets "$work/sheets")
