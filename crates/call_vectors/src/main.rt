@@ -305,10 +305,10 @@ fn main(rt: HostRuntime) -> io::Result<()> {
     let mut input = rt.stdin();
     records::skip_line(&mut input)?;
     let t = replay(&mut input, &mut space)?;
-    records::print_number(&rt, "", t.records as u64)?;
-    records::print_number(&rt, " records, ", t.edges as u64)?;
-    records::print_number(&rt, " edges, ", t.plans as u64)?;
-    records::print_number(&rt, " plans, ", t.memo as u64)?;
-    records::print_number(&rt, " memo entries, ", t.agree as u64)?;
+    records::print_number(&rt, b"", t.records as u64)?;
+    records::print_number(&rt, b" records, ", t.edges as u64)?;
+    records::print_number(&rt, b" edges, ", t.plans as u64)?;
+    records::print_number(&rt, b" plans, ", t.memo as u64)?;
+    records::print_number(&rt, b" memo entries, ", t.agree as u64)?;
     rt.print(" records agree\n")
 }

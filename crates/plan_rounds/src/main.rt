@@ -74,18 +74,18 @@ fn repeat(
     last
 }
 
-fn print_number(rt: &impl Print, n: u32, after: &str) -> io::Result<()> {
+fn print_number(rt: &impl Print, n: u32, after: &[u8]) -> io::Result<()> {
     rt.print(n)?;
-    rt.print(after)
+    rt.write_all(after)
 }
 
 fn print(rt: &impl Print, r: Report) -> io::Result<()> {
-    print_number(rt, r.answer, " ")?;
-    print_number(rt, r.edges, " ")?;
-    print_number(rt, r.plans, " ")?;
-    print_number(rt, r.memo, " ")?;
-    print_number(rt, r.visits, " ")?;
-    print_number(rt, r.chosen, "\n")
+    print_number(rt, r.answer, b" ")?;
+    print_number(rt, r.edges, b" ")?;
+    print_number(rt, r.plans, b" ")?;
+    print_number(rt, r.memo, b" ")?;
+    print_number(rt, r.visits, b" ")?;
+    print_number(rt, r.chosen, b"\n")
 }
 
 fn wide(b: u8) -> u32

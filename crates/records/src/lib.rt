@@ -127,7 +127,7 @@ pub fn after_sheet(bytes: &[u8]) -> &[u8]
     &bytes[at..n]
 }
 
-pub fn print_number(rt: &impl Print, before: &str, n: u64) -> io::Result<()> {
-    rt.print(before)?;
+pub fn print_number(rt: &impl Print, before: &[u8], n: u64) -> io::Result<()> {
+    rt.write_all(before)?;
     rt.print(n)
 }

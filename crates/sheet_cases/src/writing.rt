@@ -93,16 +93,17 @@ fn number(answer: SheetAnswer) -> u32 {
 }
 
 // Checks the buffer's first bytes and prints the answer under a name.
-fn show(rt: &impl Print, name: &str, buf: &[u8], length: usize) -> io::Result<()> {
+fn show(rt: &impl Print, name: &[u8], buf: &[u8], length: usize) -> io::Result<()> {
     if buf.len() < length {
         return Ok(());
     }
     let answer = number(sheet_check::check(&buf[0..length]));
-    println!(rt; "{name}: {answer}")
+    rt.write_all(name)?;
+    println!(rt; ": {answer}")
 }
 
 // So many bytes of the joined sheet; past its end they are 0.
-pub fn cut(rt: &impl Print, name: &str, length: usize) -> io::Result<()> {
+pub fn cut(rt: &impl Print, name: &[u8], length: usize) -> io::Result<()> {
     let mut space = [0u8; 128];
     let buf: &mut [u8] = &mut space;
     joined(buf);
@@ -112,7 +113,7 @@ pub fn cut(rt: &impl Print, name: &str, length: usize) -> io::Result<()> {
 // The joined sheet with two words replaced.
 pub fn replaced_two(
     rt: &impl Print,
-    name: &str,
+    name: &[u8],
     at: usize,
     w: u32,
     other: usize,
@@ -127,14 +128,14 @@ pub fn replaced_two(
 }
 
 // The joined sheet with one word replaced.
-pub fn replaced(rt: &impl Print, name: &str, at: usize, w: u32) -> io::Result<()> {
+pub fn replaced(rt: &impl Print, name: &[u8], at: usize, w: u32) -> io::Result<()> {
     replaced_two(rt, name, at, w, at, w)
 }
 
 // A uniform sheet.
 pub fn made(
     rt: &impl Print,
-    name: &str,
+    name: &[u8],
     leaves: u32,
     joins: u32,
     predicates: u32,
@@ -151,7 +152,7 @@ pub fn made(
 // A uniform sheet of leaves and columns with one word replaced.
 pub fn remade(
     rt: &impl Print,
-    name: &str,
+    name: &[u8],
     leaves: u32,
     columns: u32,
     at: usize,

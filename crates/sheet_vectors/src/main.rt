@@ -35,9 +35,9 @@ fn counted(rt: &impl Print, t: Tally, record: &[u8]) -> io::Result<Tally>
             agree: t.agree + 1,
         });
     }
-    records::print_number(rt, "record ", t.records as u64)?;
-    records::print_number(rt, ": expected ", expected as u64)?;
-    records::print_number(rt, ", found ", found as u64)?;
+    records::print_number(rt, b"record ", t.records as u64)?;
+    records::print_number(rt, b": expected ", expected as u64)?;
+    records::print_number(rt, b", found ", found as u64)?;
     rt.print("\n")?;
     Ok(Tally {
         records,
@@ -66,7 +66,7 @@ fn main(rt: HostRuntime) -> io::Result<()> {
     let mut input = rt.stdin();
     records::skip_line(&mut input)?;
     let t = replay(&rt, &mut input, &mut space)?;
-    records::print_number(&rt, "", t.records as u64)?;
-    records::print_number(&rt, " records, ", t.agree as u64)?;
+    records::print_number(&rt, b"", t.records as u64)?;
+    records::print_number(&rt, b" records, ", t.agree as u64)?;
     rt.print(" agree\n")
 }
