@@ -1,12 +1,11 @@
 -- The call's answer in document 01's numbers. Definitions only.
-use Rattle.std.specs.Prelude.{length}
+use Rattle.std.specs.Prelude.{length, Result, Ok, Err}
 use Rattle.definition.specs.Hypergraph.{none32}
 use Rattle.definition.specs.Call as call
 use Rattle.checks.specs.Answers.{refusal_number}
+use Rattle.checks.specs.declared.Refusal.{Refusal}
 use Rattle.search.specs.View.{ending_number, chosen_of}
 use Rattle.answer.specs.declared.Outcome.{Outcome}
-use Rattle.answer.specs.declared.Answer.{Answer}
-use Rattle.answer.specs.declared.Answer.TheVariants as answer
 use Rattle.answer.specs.declared.Report.{Report}
 
 -- what an outcome reports: "Beside its number an answer has counts of edges, plans and memo entries written, looks, and the chosen plan's
@@ -34,6 +33,6 @@ ended_as o =
     }
 
 -- "After 1 to 11 .. the counts are 0"
-abbrev pub reported_of : Answer → Report
-reported_of (answer.Refused f) = record { answer = refusal_number f; edges = 0; plans = 0; memo = 0; visits = 0; chosen = none32 }
-reported_of (answer.Ended o) = ended_as o
+abbrev pub reported_of : Result Outcome Refusal → Report
+reported_of (Err f) = record { answer = refusal_number f; edges = 0; plans = 0; memo = 0; visits = 0; chosen = none32 }
+reported_of (Ok o) = ended_as o

@@ -5,10 +5,11 @@ ghost use Rattle.std.specs.Prelude.{◌≡◌};
 ghost use Rattle.answer.specs.Answers.{reported_of};
 
 use checks::Refusal;
+use nodeset::NONE;
 use search::Ending;
 
 // How the search ended, how many entries were written, and the visits made.
-#[derive(Drop)]
+#[derive(Clone, Copy)]
 pub struct Outcome {
     pub ending: Ending,
     pub edges: u32,
@@ -22,8 +23,12 @@ impl Outcome {
     pub const VISITS: u32 = 1000000;
 }
 
+// What a call answers: its outcome, or why nothing was searched.
+pub type Answer = Result<Outcome, Refusal>;
+
 // An answer in document 01's numbers.
-#[derive(Drop)]
+// kept: numbers, as document 01 and what is printed have them.
+#[derive(Clone, Copy)]
 pub struct Report {
     pub answer: u32,
     pub edges: u32,
@@ -33,36 +38,28 @@ pub struct Report {
     pub chosen: u32,
 }
 
-#[derive(Drop)]
-pub enum Answer {
-    Refused(Refusal),
-    Ended(Outcome),
-}
+impl From<Answer> for Report {
+    ghost from_gives = { λ a r. r ≡ reported_of a };
 
-impl Answer {
-    pub fn report(self) -> Report
-        ensures { result ≡ reported_of self }
-    {
-        match self {
-            Answer::Refused(f) => Report {
+    // After a refusal the counts are 0, and no plan is chosen.
+    fn from(answer: Answer) -> Report {
+        match answer {
+            Ok(o) => Report {
+                answer: search::number(o.ending),
+                edges: o.edges,
+                plans: o.plans,
+                memo: o.memo,
+                visits: o.visits,
+                chosen: search::chosen(o.ending),
+            },
+            Err(f) => Report {
                 answer: f.number(),
                 edges: 0,
                 plans: 0,
                 memo: 0,
                 visits: 0,
-                chosen: Ending::NONE,
+                chosen: NONE,
             },
-            Answer::Ended(o) => {
-                let ending = o.ending;
-                Report {
-                    answer: ending.number(),
-                    edges: o.edges,
-                    plans: o.plans,
-                    memo: o.memo,
-                    visits: o.visits,
-                    chosen: ending.chosen(),
-                }
-            }
         }
     }
 }

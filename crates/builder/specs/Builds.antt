@@ -1,12 +1,16 @@
 -- What a builder holds, as the definition's build, and what its functions keep of it.
-use Rattle.std.specs.Prelude.{◌≡◌, List, [], ◌∷◌, ◌++◌, ℕ, zero, suc, ◌+◌, ◌-◌, ◌≤◌, ◌<◌, length, get_or, take, drop}
+use Rattle.std.specs.Prelude.{◌≡◌, List, [], ◌∷◌, ◌++◌, reverse, ℕ, ◌+◌, ◌-◌, ◌≤◌, ◌<◌, length, take, drop, bit_or, Option, Some, None}
 use Rattle.nodeset.specs.Sets.{singleton}
+use Rattle.nodeset.specs.declared.PredicateId.{PredicateId}
 use Rattle.definition.specs.Lists.{column}
-use Rattle.definition.specs.Hypergraph.{Edge}
-use Rattle.definition.specs.Edges.{Build, Sides, JoinRecord, with_join, record_of}
+use Rattle.definition.specs.Hypergraph.{Edge, none32}
+use Rattle.definition.specs.Edges.{Build, JoinRecord, with_join}
 use Rattle.definition.specs.EdgeView.{edges_of}
+use Rattle.sheet.specs.declared.Range.{Range}
 use Rattle.ses.specs.View.{leaves_of, Fits}
 use Rattle.tes.specs.Views.{joins_of}
+use Rattle.tes.specs.declared.JoinRecord as record_lem
+use Rattle.builder.specs.declared.EdgeLists as declared
 use Rattle.builder.specs.declared.HypergraphBuilder.{HypergraphBuilder}
 
 -- ---- the lists
@@ -20,6 +24,19 @@ pub record EdgeLists : Type 0 where
 
 abbrev pub edge_lists : List ℕ → List ℕ → List ℕ → List ℕ → List ℕ → EdgeLists
 edge_lists a b c d e = record { left = a; right = b; predicate = c; source = d; kind = e }
+
+-- what the caller's lists hold
+abbrev pub edge_lists_of : declared.EdgeLists → EdgeLists
+edge_lists_of e = edge_lists e.left.now e.right.now e.predicate.now e.source.now e.kind.now
+
+-- the caller's lists are the same ones, whatever they hold
+abbrev pub SameEdgeLists : declared.EdgeLists → declared.EdgeLists → Type 0
+SameEdgeLists a b =
+    (b.left.ghost_name ≡ a.left.ghost_name)
+    × (b.right.ghost_name ≡ a.right.ghost_name)
+    × (b.predicate.ghost_name ≡ a.predicate.ghost_name)
+    × (b.source.ghost_name ≡ a.source.ghost_name)
+    × (b.kind.ghost_name ≡ a.kind.ghost_name)
 
 -- no list is shorter than x
 pub record Longer (x : ℕ) (h : EdgeLists) : Type 0 where
@@ -53,61 +70,60 @@ pub record Added (m n : ℕ) (h g : EdgeLists) : Type 0 where
   pub source : Behind n h.source g.source
   pub kind : Behind n h.kind g.kind
 
--- ---- the builder's own lists
+-- ---- the builder
 
--- the 64 places of a list from this one on
-abbrev pub section : ℕ → List ℕ → List ℕ
-section at l = take 64 (drop at l)
-
-pub record Places (numbers sets : List ℕ) : Type 0 where
-  pub all_numbers : length numbers ≡ 192
-  pub all_sets : length sets ≡ 320
-
--- ---- the counts
-
-abbrev pub counted : ℕ → ℕ → ℕ → ℕ → HypergraphBuilder
-counted edges joins leaves height = record { edges = edges; joins = joins; leaves = leaves; height = height }
+abbrev pub empty : HypergraphBuilder
+empty = record { edges = 0; leaves = record { items = [] }; joins = record { items = [] }; pile = record { items = [] } }
 
 abbrev pub more_edges : ℕ → HypergraphBuilder → HypergraphBuilder
-more_edges m b = counted (b.edges + m) b.joins b.leaves b.height
+more_edges m b = record { edges = b.edges + m; leaves = b.leaves; joins = b.joins; pile = b.pile }
 
-abbrev pub one_join : HypergraphBuilder → HypergraphBuilder
-one_join b = counted b.edges (b.joins + 1) b.leaves (b.height - 2 + 1)
+-- a join's record more, and the join in place of the two top things on the pile
+abbrev pub one_join : record_lem.JoinRecord → HypergraphBuilder → HypergraphBuilder
+one_join j b =
+    record {
+      edges = b.edges;
+      leaves = b.leaves;
+      joins = record { items = b.joins.items ++ (j ∷ []) };
+      pile = record { items = take (length b.pile.items - 2) b.pile.items ++ (bit_or j.left_nodes j.right_nodes ∷ []) };
+    }
 
-abbrev pub one_leaf : HypergraphBuilder → HypergraphBuilder
-one_leaf b = counted b.edges b.joins (b.leaves + 1) (b.height + 1)
+-- a leaf more, in the builder and on the pile
+abbrev pub one_leaf : Range → HypergraphBuilder → HypergraphBuilder
+one_leaf p b =
+    record {
+      edges = b.edges;
+      leaves = record { items = b.leaves.items ++ (p ∷ []) };
+      joins = b.joins;
+      pile = record { items = b.pile.items ++ (singleton (length b.leaves.items) ∷ []) };
+    }
 
 -- ---- what they say together
-
-pub record State : Type 0 where
-  pub counts : HypergraphBuilder
-  pub edges : EdgeLists
-  pub numbers : List ℕ
-  pub sets : List ℕ
-
-abbrev pub state : HypergraphBuilder → EdgeLists → List ℕ → List ℕ → State
-state b e numbers sets = record { counts = b; edges = e; numbers = numbers; sets = sets }
 
 abbrev pub edges_in : ℕ → EdgeLists → List Edge
 edges_in n h = edges_of n h.left h.right h.predicate h.source h.kind
 
-abbrev pub joins_in : ℕ → List ℕ → List ℕ → List JoinRecord
-joins_in n numbers sets = joins_of n (section 0 numbers) (section 64 sets) (section 128 sets) (section 192 sets) (section 256 sets)
+-- an edge's predicate, or none
+abbrev pub predicate_number : Option PredicateId → ℕ
+predicate_number (Some p) = p.0
+predicate_number None = none32
 
--- the h things on the pile, its top first
-unfoldable pub pile_of : ℕ → List ℕ → List ℕ
-pile_of zero p = []
-pile_of (suc h) p = get_or p h 0 ∷ pile_of h p
+-- the things on the pile, its top first
+abbrev pub pile_of : List ℕ → List ℕ
+pile_of p = reverse p
 
-abbrev pub build_of : List ℕ → State → Build
-build_of sheet s =
-    let b = s.counts in
+abbrev pub build_of : List ℕ → HypergraphBuilder → EdgeLists → Build
+build_of sheet b e =
     record {
-      leaves = leaves_of sheet b.leaves (section 64 s.numbers) (section 128 s.numbers);
-      edges = edges_in b.edges s.edges;
-      joins = joins_in b.joins s.numbers s.sets;
-      pile = pile_of b.height s.sets;
+      leaves = leaves_of sheet b.leaves.items;
+      edges = edges_in b.edges e;
+      joins = joins_of b.joins.items;
+      pile = pile_of b.pile.items;
     }
+
+-- a fact about each sheet and all edges
+abbrev pub ForAllLists : (List ℕ → EdgeLists → Type 0) → Type 0
+ForAllLists P = (sheet : List ℕ) (e : EdgeLists) → P sheet e
 
 -- ---- steps of the definition's build
 
@@ -117,17 +133,16 @@ with_leaf k columns b =
     record { leaves = b.leaves ++ (columns ∷ []); edges = b.edges; joins = b.joins; pile = singleton k ∷ b.pile }
 
 -- the record of a join of the two top things on the pile
-abbrev pub with_record : ℕ → ℕ → ℕ → Sides → Build → Build
-with_record t l r s b = with_join (record_of t l r s) (drop 2 b.pile) b
+abbrev pub with_record : JoinRecord → Build → Build
+with_record j b = with_join j (drop 2 b.pile) b
 
 -- ---- what the functions ask
 
 -- the leaves are held, each with a range that lies in the sheet's columns
-abbrev pub LeavesFit : List ℕ → HypergraphBuilder → List ℕ → Type 0
-LeavesFit sheet b numbers = Fits sheet b.leaves (section 64 numbers) (section 128 numbers)
+abbrev pub LeavesFit : List ℕ → HypergraphBuilder → Type 0
+LeavesFit sheet b = Fits sheet b.leaves.items
 
 -- a join finds its two sides on the pile, and a place for its record
 pub record RoomFor (b : HypergraphBuilder) : Type 0 where
-  pub two : 2 ≤ b.height
-  pub tall : b.height ≤ 64
-  pub joins : b.joins < 64
+  pub two : 2 ≤ length b.pile.items
+  pub joins : length b.joins.items < 64

@@ -1,78 +1,79 @@
 -- What a builder holds after each write. Assumes nothing.
-use Rattle.std.specs.Prelude.{◌≡◌, refl, ◌⊎◌, List, [], ◌∷◌, ◌++◌, ℕ, zero, suc, ◌+◌, ◌-◌, ◌≤◌, ◌<◌, length, get_or, take, drop, set}
-use Rattle.std.proofs.Common.{sym, ap₂, ◌∙◌, inl, inr, arith, add-one, le_of_suc-le-suc, eq-or-lt_of_le, length-set, length-drop, get_or-set_other, get_or-set_same, drop-set-lt, length-take-le}
+use Rattle.std.specs.Prelude.{◌≡◌, refl, ◌⊎◌, List, [], ◌∷◌, ◌++◌, ℕ, suc, ◌+◌, ◌-◌, ◌≤◌, ◌<◌, length, get_or, take, drop, set}
+use Rattle.std.proofs.Common.{sym, ap₂, ◌∙◌, inl, inr, arith, add-one, le_of_suc-le-suc, eq-or-lt_of_le}
+use Rattle.std.proofs.Common.{length-set, length-append, get_or-set_other, get_or-set_same, drop-set-lt, take-suc}
+use Rattle.std.proofs.Math.Seq.{take_all}
+use Rattle.std.proofs.Math.ListN.{get_or-append}
+use Rattle.std.proofs.lemmas.List.{get_or_at}
 use Rattle.std.proofs.Math.Path.{ap}
 use Rattle.std.specs.Int.Bits.{bit_or}
-use Rattle.std.proofs.lemmas.List.{drop-set-add, take-set-le}
-use Rattle.std.proofs.Math.Seq.{take-set-lt}
+use mathlib.Core.List.{map-append, reverse-append}
 use Rattle.nodeset.specs.Sets.{singleton}
 use Rattle.definition.specs.Lists.{tabulate}
 use Rattle.definition.proofs.ListLaws.{tabulate_more}
 use Rattle.definition.specs.Hypergraph.{Edge}
-use Rattle.definition.specs.Edges.{JoinRecord, Sides, Build}
 use Rattle.definition.specs.EdgeView.{edge_at, edges_of}
-use Rattle.ses.specs.View.{columns_at, leaves_of, Fit, Fits}
-use Rattle.tes.specs.Views.{join_at, joins_of}
-use Rattle.builder.specs.Builds.{EdgeLists, Places, section, state, one_join, one_leaf, joins_in, build_of, with_leaf, with_record, pile_of, Behind, Added, RoomFor, LeavesFit}
+use Rattle.sheet.specs.declared.Range.{Range}
+use Rattle.ses.specs.View.{columns_at, leaves_of, leaf_range, Fit, Fits}
+use Rattle.tes.specs.Views.{join_of, joins_of}
+use Rattle.tes.specs.declared.JoinRecord.{JoinRecord}
+use Rattle.builder.specs.Builds.{EdgeLists, one_join, one_leaf, build_of, with_leaf, with_record, pile_of, Behind, Added, RoomFor, LeavesFit}
 use Rattle.builder.specs.declared.HypergraphBuilder.{HypergraphBuilder}
 
 -- ---- one place more
 
 -- a write at place n is seen there, and below n nothing changes
-put_same : (l : List ℕ) (n x : ℕ) → n < length l → get_or (set l n x) n 0 ≡ x
+pub put_same : (l : List ℕ) (n x : ℕ) → n < length l → get_or (set l n x) n 0 ≡ x
 put_same l n x h = get_or-set_same l n x 0 h
 
-put_other : (l : List ℕ) (n x i : ℕ) → i < n → get_or (set l n x) i 0 ≡ get_or l i 0
+pub put_other : (l : List ℕ) (n x i : ℕ) → i < n → get_or (set l n x) i 0 ≡ get_or l i 0
 put_other l n x i h = get_or-set_other l n i x 0 (λ e. omega arith)
 
 edge_eq : {a b c d e f g h i j : ℕ} → a ≡ f → b ≡ g → c ≡ h → d ≡ i → e ≡ j
     → ◌≡◌ {A = Edge} (record { left = a; right = b; predicate = c; source = d; type = e }) (record { left = f; right = g; predicate = h; source = i; type = j })
 edge_eq p q r s t = cc
 
-join_eq : {a b c d e f g h i j : ℕ} → a ≡ f → b ≡ g → c ≡ h → d ≡ i → e ≡ j
-    → ◌≡◌ {A = JoinRecord} (record { type = a; left_nodes = b; right_nodes = c; tes_left = d; tes_right = e }) (record { type = f; left_nodes = g; right_nodes = h; tes_left = i; tes_right = j })
-join_eq p q r s t = cc
-
 module _ (n : ℕ) (a b c d e : List ℕ) (v w x y z : ℕ) (ha : n < length a) (hb : n < length b) (hc : n < length c) (hd : n < length d) (he : n < length e) where
   pub edges_more : edges_of (n + 1) (set a n v) (set b n w) (set c n x) (set d n y) (set e n z)
       ≡ edges_of n a b c d e ++ (record { left = v; right = w; predicate = x; source = y; type = z } ∷ [])
   unfolding edges_of
   edges_more =
-      tabulate_more n _ (edge_at a b c d e) (λ i h. edge_eq (put_other a n v i h) (put_other b n w i h) (put_other c n x i h) (put_other d n y i h) (put_other e n z i h))
-      ∙ ap (λ (f : Edge). tabulate n (edge_at a b c d e) ++ (f ∷ [])) (edge_eq (put_same a n v ha) (put_same b n w hb) (put_same c n x hc) (put_same d n y hd) (put_same e n z he))
+      tabulate_more n _ (edge_at a b c d e) (λ i h.
+      edge_eq (put_other a n v i h) (put_other b n w i h) (put_other c n x i h) (put_other d n y i h) (put_other e n z i h))
+      ∙ ap (λ (f : Edge). tabulate n (edge_at a b c d e) ++ (f ∷ []))
+      (edge_eq (put_same a n v ha) (put_same b n w hb) (put_same c n x hc) (put_same d n y hd) (put_same e n z he))
 
-  pub joins_more : joins_of (n + 1) (set a n v) (set b n w) (set c n x) (set d n y) (set e n z)
-      ≡ joins_of n a b c d e ++ (record { type = v; left_nodes = w; right_nodes = x; tes_left = y; tes_right = z } ∷ [])
-  unfolding joins_of
-  joins_more =
-      tabulate_more n _ (join_at a b c d e) (λ i h. join_eq (put_other a n v i h) (put_other b n w i h) (put_other c n x i h) (put_other d n y i h) (put_other e n z i h))
-      ∙ ap (λ (f : JoinRecord). tabulate n (join_at a b c d e) ++ (f ∷ [])) (join_eq (put_same a n v ha) (put_same b n w hb) (put_same c n x hc) (put_same d n y hd) (put_same e n z he))
+-- one join more, one leaf more
 
-module _ (sheet : List ℕ) (n : ℕ) (first count : List ℕ) (f c : ℕ) (hf : n < length first) (hc : n < length count) where
-  pub leaves_more : leaves_of sheet (n + 1) (set first n f) (set count n c) ≡ leaves_of sheet n first count ++ (columns_at sheet f c ∷ [])
-  leaves_more =
-      tabulate_more n _ (λ k. columns_at sheet (get_or first k 0) (get_or count k 0)) (λ i h. ap₂ (columns_at sheet) (put_other first n f i h) (put_other count n c i h))
-      ∙ ap (λ (l : List ℕ). leaves_of sheet n first count ++ (l ∷ [])) (ap₂ (columns_at sheet) (put_same first n f hf) (put_same count n c hc))
+pub joins_more : (js : List JoinRecord) (j : JoinRecord) → joins_of (js ++ (j ∷ [])) ≡ joins_of js ++ (join_of j ∷ [])
+joins_more js j = map-append join_of js (j ∷ [])
+
+pub leaves_more : (sheet : List ℕ) (rs : List Range) (r : Range)
+    → leaves_of sheet (rs ++ (r ∷ [])) ≡ leaves_of sheet rs ++ (columns_at sheet r.first r.count ∷ [])
+leaves_more sheet rs r = map-append (λ (r : Range). columns_at sheet r.first r.count) rs (r ∷ [])
 
 -- ---- the pile
 
-pub pile_under : (h j : ℕ) (p : List ℕ) (x : ℕ) → h ≤ j → pile_of h (set p j x) ≡ pile_of h p
-unfolding pile_of
-pile_under zero j p x k = refl
-pile_under (suc h) j p x k = ap₂ (λ (y : ℕ) (r : List ℕ). y ∷ r) (put_other p j x h (omega arith)) (pile_under h j p x (omega arith))
+-- a thing put on the pile is its top
+pub pile_put : (p : List ℕ) (x : ℕ) → pile_of (p ++ (x ∷ [])) ≡ x ∷ pile_of p
+pile_put p x = reverse-append p (x ∷ [])
 
-pub pile_put : (h : ℕ) (p : List ℕ) (x : ℕ) → h < length p → pile_of (h + 1) (set p h x) ≡ x ∷ pile_of h p
-unfolding pile_of
-pile_put h p x k =
-    ap (λ (n : ℕ). pile_of n (set p h x)) (add-one h)
-    ∙ ap₂ (λ (y : ℕ) (r : List ℕ). y ∷ r) (put_same p h x k) (pile_under h h p x (omega arith))
+-- what lies under it stays
+pub pile_under : (p : List ℕ) (x : ℕ) → drop 1 (pile_of (p ++ (x ∷ []))) ≡ pile_of p
+pile_under p x = ap (drop 1) (pile_put p x)
 
-pub pile_two : (n : ℕ) (p : List ℕ) → 2 ≤ n → pile_of n p ≡ get_or p (n - 1) 0 ∷ (get_or p (n - 2) 0 ∷ pile_of (n - 2) p)
-unfolding pile_of
-pile_two n p h =
-    let e : n ≡ suc (suc (n - 2)) = omega arith in
-    let f : n - 1 ≡ suc (n - 2) = omega arith in
-    ap (λ (k : ℕ). pile_of k p) e ∙ ap (λ (k : ℕ). get_or p k 0 ∷ (get_or p (n - 2) 0 ∷ pile_of (n - 2) p)) (sym f)
+pub pile_two : (p : List ℕ) → let n = length p in 2 ≤ n → pile_of p ≡ get_or p (n - 1) 0 ∷ (get_or p (n - 2) 0 ∷ pile_of (take (n - 2) p))
+pile_two p h =
+    let n = length p in
+    let k = n - 2 in
+    let x = get_or p k 0 in
+    let y = get_or p (n - 1) 0 in
+    let m : n ≡ suc (suc k) = omega arith in
+    let j : suc k ≡ n - 1 = omega arith in
+    let all : take (suc (suc k)) p ≡ p = take_all (suc (suc k)) p (omega arith) in
+    let split : take (suc (suc k)) p ≡ (take k p ++ (x ∷ [])) ++ (y ∷ []) =
+    take-suc p (suc k) 0 (omega arith) ∙ ap₂ (λ (l : List ℕ) (i : ℕ). l ++ (get_or p i 0 ∷ [])) (take-suc p k 0 (omega arith)) j in
+    ap pile_of (sym all ∙ split) ∙ pile_put (take k p ++ (x ∷ [])) y ∙ ap (λ (l : List ℕ). y ∷ l) (pile_put (take k p) x)
 
 -- ---- the rest of the lists
 
@@ -80,7 +81,10 @@ behind_put : (l : List ℕ) (n x : ℕ) → Behind (n + 1) l (set l n x)
 behind_put l n x = record { length_same = length-set l n x; same = drop-set-lt (n + 1) l n x (omega arith) }
 
 module _ (n : ℕ) (h : EdgeLists) (v w x y z : ℕ) where
-  pub added_one : Added n (n + 1) h (record { left = set h.left n v; right = set h.right n w; predicate = set h.predicate n x; source = set h.source n y; kind = set h.kind n z })
+  abbrev written : EdgeLists
+  written = record { left = set h.left n v; right = set h.right n w; predicate = set h.predicate n x; source = set h.source n y; kind = set h.kind n z }
+
+  pub added_one : Added n (n + 1) h written
   added_one =
       record {
         grown = omega arith;
@@ -91,113 +95,39 @@ module _ (n : ℕ) (h : EdgeLists) (v w x y z : ℕ) where
         kind = behind_put h.kind n z;
       }
 
--- ---- the sections
-
-section_put : (at : ℕ) (l : List ℕ) (j x : ℕ) → j < 64 → section at (set l (at + j) x) ≡ set (section at l) j x
-section_put at l j x h = ap (take 64) (drop-set-add at l j x) ∙ take-set-lt 64 (drop at l) j x h
-
-section_before : (at : ℕ) (l : List ℕ) (i x : ℕ) → i < at → section at (set l i x) ≡ section at l
-section_before at l i x h = ap (take 64) (drop-set-lt at l i x h)
-
-section_behind : (at : ℕ) (l : List ℕ) (i x : ℕ) → at + 64 ≤ i → section at (set l i x) ≡ section at l
-section_behind at l i x h =
-    let e : i ≡ at + (i - at) = omega arith in
-    ap (λ (k : ℕ). section at (set l k x)) e ∙ ap (take 64) (drop-set-add at l (i - at) x) ∙ take-set-le 64 (drop at l) (i - at) x (omega arith)
-
-pub section-length : (at : ℕ) (l : List ℕ) → at + 64 ≤ length l → length (section at l) ≡ 64
-section-length at l h = length-take-le 64 (drop at l) (omega (arith, length-drop at l))
-
-in_section : (at : ℕ) (l : List ℕ) (j : ℕ) → at + 64 ≤ length l → j < 64 → j < length (section at l)
-in_section at l j h e = omega (arith, section-length at l h)
-
-joins_same : {a b c d e f g h i j : List ℕ} (n : ℕ) → a ≡ f → b ≡ g → c ≡ h → d ≡ i → e ≡ j → joins_of n a b c d e ≡ joins_of n f g h i j
-joins_same n p q r s t = cc
-
-build_eq : {ls ms : List (List ℕ)} {es : List Edge} {js ks : List JoinRecord} {p q : List ℕ} → ls ≡ ms → js ≡ ks → p ≡ q
-    → ◌≡◌ {A = Build} (record { leaves = ls; edges = es; joins = js; pile = p }) (record { leaves = ms; edges = es; joins = ks; pile = q })
-build_eq x y z = cc
-
 -- ---- one record more
 
-abbrev recorded : List ℕ → ℕ → ℕ → ℕ → ℕ → ℕ → List ℕ
-recorded sets j l r x y = set (set (set (set sets (64 + j) l) (128 + j) r) (192 + j) x) (256 + j) y
+-- the leaves stay
+pub leaves_kept : (sheet : List ℕ) (b : HypergraphBuilder) (j : JoinRecord) → LeavesFit sheet b → LeavesFit sheet (one_join j b)
+leaves_kept sheet b j f = f
 
-module _ (numbers sets : List ℕ) (w : Places numbers sets) (j t l r x y top : ℕ) (hj : j < 64) (ht : top < 64) where
-  abbrev s₁ : List ℕ
-  s₁ = set sets (64 + j) l
-
-  abbrev s₂ : List ℕ
-  s₂ = set s₁ (128 + j) r
-
-  abbrev s₃ : List ℕ
-  s₃ = set s₂ (192 + j) x
-
-  joins_after : joins_in (j + 1) (set numbers j t) (set (recorded sets j l r x y) top (bit_or l r)) ≡ joins_in j numbers sets ++ (record { type = t; left_nodes = l; right_nodes = r; tes_left = x; tes_right = y } ∷ [])
-  joins_after =
-      joins_same (j + 1) (take-set-lt 64 numbers j t hj)
-      (section_before 64 (recorded sets j l r x y) top (bit_or l r) (omega arith) ∙ section_behind 64 s₃ (256 + j) y (omega arith) ∙ section_behind 64 s₂ (192 + j) x (omega arith) ∙ section_behind 64 s₁ (128 + j) r (omega arith) ∙ section_put 64 sets j l hj)
-      (section_before 128 (recorded sets j l r x y) top (bit_or l r) (omega arith) ∙ section_behind 128 s₃ (256 + j) y (omega arith) ∙ section_behind 128 s₂ (192 + j) x (omega arith) ∙ section_put 128 s₁ j r hj ∙ ap (λ (s : List ℕ). set s j r) (section_before 128 sets (64 + j) l (omega arith)))
-      (section_before 192 (recorded sets j l r x y) top (bit_or l r) (omega arith) ∙ section_behind 192 s₃ (256 + j) y (omega arith) ∙ section_put 192 s₂ j x hj ∙ ap (λ (s : List ℕ). set s j x) (section_before 192 s₁ (128 + j) r (omega arith) ∙ section_before 192 sets (64 + j) l (omega arith)))
-      (section_before 256 (recorded sets j l r x y) top (bit_or l r) (omega arith) ∙ section_put 256 s₃ j y hj ∙ ap (λ (s : List ℕ). set s j y) (section_before 256 s₂ (192 + j) x (omega arith) ∙ section_before 256 s₁ (128 + j) r (omega arith) ∙ section_before 256 sets (64 + j) l (omega arith)))
-      ∙ joins_more j (section 0 numbers) (section 64 sets) (section 128 sets) (section 192 sets) (section 256 sets) t l r x y (in_section 0 numbers j (omega (arith, w.all_numbers)) hj) (in_section 64 sets j (omega (arith, w.all_sets)) hj) (in_section 128 sets j (omega (arith, w.all_sets)) hj) (in_section 192 sets j (omega (arith, w.all_sets)) hj) (in_section 256 sets j (omega (arith, w.all_sets)) hj)
-
-  pile_after : pile_of (top + 1) (set (recorded sets j l r x y) top (bit_or l r)) ≡ bit_or l r ∷ pile_of top sets
-  pile_after =
-      pile_put top (recorded sets j l r x y) (bit_or l r) (simp length-set (omega (arith, w.all_sets)))
-      ∙ ap (λ (h : List ℕ). bit_or l r ∷ h) (pile_under top (256 + j) s₃ y (omega arith) ∙ pile_under top (192 + j) s₂ x (omega arith) ∙ pile_under top (128 + j) s₁ r (omega arith) ∙ pile_under top (64 + j) sets l (omega arith))
-
--- the leaves' sections stay
-pub leaves_kept : (numbers : List ℕ) (j t : ℕ) → j < 64 → (sheet : List ℕ) (b : HypergraphBuilder) → LeavesFit sheet b numbers → LeavesFit sheet b (set numbers j t)
-leaves_kept numbers j t h sheet b f = rw (section_before 64 numbers j t (omega arith), section_before 128 numbers j t (omega arith)) f
-
-pub record_built : (sheet : List ℕ) (b : HypergraphBuilder) (e : EdgeLists) (numbers sets : List ℕ) (t l r : ℕ) (s : Sides) → Places numbers sets → RoomFor b
-    → build_of sheet (state (one_join b) e (set numbers b.joins t) (set (recorded sets b.joins l r s.left s.right) (b.height - 2) (bit_or l r)))
-    ≡ with_record t l r s (build_of sheet (state b e numbers sets))
-record_built sheet b e numbers sets t l r s w room =
-    let top : b.height - 2 < 64 = omega (arith, room.tall, room.two) in
-    build_eq (ap₂ (leaves_of sheet b.leaves) (section_before 64 numbers b.joins t (omega (arith, room.joins))) (section_before 128 numbers b.joins t (omega (arith, room.joins))))
-    (joins_after numbers sets w b.joins t l r s.left s.right (b.height - 2) room.joins top)
-    (pile_after numbers sets w b.joins t l r s.left s.right (b.height - 2) room.joins top
-    ∙ ap (λ (h : List ℕ). bit_or l r ∷ h) (sym (ap (drop 2) (pile_two b.height sets room.two))))
+pub record_built : (sheet : List ℕ) (b : HypergraphBuilder) (e : EdgeLists) (j : JoinRecord) → RoomFor b
+    → build_of sheet (one_join j b) e ≡ with_record (join_of j) (build_of sheet b e)
+record_built sheet b e j room =
+    let rest = take (length b.pile.items - 2) b.pile.items in
+    rw (joins_more b.joins.items j, pile_put rest (bit_or j.left_nodes j.right_nodes), pile_two b.pile.items room.two)
 
 -- ---- one leaf more
 
-pub fits_more : (sheet : List ℕ) (n : ℕ) (first count : List ℕ) (f c : ℕ) → Fits sheet n first count → n < length first → n < length count → Fit sheet f c → n < 64
-    → Fits sheet (n + 1) (set first n f) (set count n c)
-fits_more sheet n first count f c w hf hc fit few =
+pub fits_more : (sheet : List ℕ) (rs : List Range) (r : Range) → Fits sheet rs → Fit sheet r.first r.count → length rs < 64 → Fits sheet (rs ++ (r ∷ []))
+fits_more sheet rs r w fit few =
     record {
-      few = omega arith;
-      firsts = simp length-set (omega arith);
-      counts = simp length-set (omega arith);
-      inside = λ k h. at k (eq-or-lt_of_le (le_of_suc-le-suc (rw add-one at h)));
+      few = simp length-append (omega arith);
+      inside = λ k h. at k (eq-or-lt_of_le (le_of_suc-le-suc (rw (length-append, add-one) at h)));
     }
   where
-    at : (k : ℕ) → (k ≡ n) ⊎ (k < n) → Fit sheet (get_or (set first n f) k 0) (get_or (set count n c) k 0)
-    at k (inl e) = rw (e, put_same first n f hf, put_same count n c hc) fit
-    at k (inr l) = rw (put_other first n f k l, put_other count n c k l) (w.inside k l)
+    none : Range
+    none = record { first = 0; count = 0 }
 
-module _ (sheet : List ℕ) (b : HypergraphBuilder) (numbers sets : List ℕ) (w : Places numbers sets) (f c x : ℕ) (hk : b.leaves < 64) where
-  abbrev after : List ℕ
-  after = set (set numbers (64 + b.leaves) f) (128 + b.leaves) c
+    at : (k : ℕ) → (k ≡ length rs) ⊎ (k < length rs) → Fit sheet (leaf_range (rs ++ (r ∷ [])) k).first (leaf_range (rs ++ (r ∷ [])) k).count
+    at k (inl e) = rw (e, get_or_at rs r [] none (length rs) refl) fit
+    at k (inr l) = rw (get_or-append rs (r ∷ []) none k l) (w.inside k l)
 
-  firsts : section 64 after ≡ set (section 64 numbers) b.leaves f
-  firsts = section_behind 64 (set numbers (64 + b.leaves) f) (128 + b.leaves) c (omega arith) ∙ section_put 64 numbers b.leaves f hk
+pub leaf_held : (sheet : List ℕ) (b : HypergraphBuilder) (e : EdgeLists) (p : Range)
+    → build_of sheet (one_leaf p b) e ≡ with_leaf (length b.leaves.items) (columns_at sheet p.first p.count) (build_of sheet b e)
+leaf_held sheet b e p =
+    rw (leaves_more sheet b.leaves.items p, pile_put b.pile.items (singleton (length b.leaves.items)))
 
-  counts : section 128 after ≡ set (section 128 numbers) b.leaves c
-  counts = section_put 128 (set numbers (64 + b.leaves) f) b.leaves c hk ∙ ap (λ (s : List ℕ). set s b.leaves c) (section_before 128 numbers (64 + b.leaves) f (omega arith))
-
-  first_fits : b.leaves < length (section 64 numbers)
-  first_fits = in_section 64 numbers b.leaves (omega (arith, w.all_numbers)) hk
-
-  count_fits : b.leaves < length (section 128 numbers)
-  count_fits = in_section 128 numbers b.leaves (omega (arith, w.all_numbers)) hk
-
-  pub leaf_held : (e : EdgeLists) → b.height < 64 → x ≡ singleton b.leaves
-      → build_of sheet (state (one_leaf b) e after (set sets b.height x)) ≡ with_leaf b.leaves (columns_at sheet f c) (build_of sheet (state b e numbers sets))
-  leaf_held e h s =
-      build_eq (ap₂ (leaves_of sheet (b.leaves + 1)) firsts counts ∙ leaves_more sheet b.leaves (section 64 numbers) (section 128 numbers) f c first_fits count_fits)
-      (joins_same b.joins (section_behind 0 (set numbers (64 + b.leaves) f) (128 + b.leaves) c (omega arith) ∙ section_behind 0 numbers (64 + b.leaves) f (omega arith)) (section_before 64 sets b.height x (omega arith)) (section_before 128 sets b.height x (omega arith)) (section_before 192 sets b.height x (omega arith)) (section_before 256 sets b.height x (omega arith)))
-      (pile_put b.height sets x (omega (arith, w.all_sets)) ∙ ap (λ (y : ℕ). y ∷ pile_of b.height sets) s)
-
-  pub leaf-fits : LeavesFit sheet b numbers → Fit sheet f c → LeavesFit sheet (one_leaf b) after
-  leaf-fits w fit = rw (firsts, counts) (fits_more sheet b.leaves (section 64 numbers) (section 128 numbers) f c w first_fits count_fits fit hk)
+pub leaf-fits : (sheet : List ℕ) (b : HypergraphBuilder) (p : Range) → length b.leaves.items < 64 → LeavesFit sheet b
+    → Fit sheet p.first p.count → LeavesFit sheet (one_leaf p b)
+leaf-fits sheet b p few w fit = fits_more sheet b.leaves.items p w fit few

@@ -1,41 +1,38 @@
-// The state of edge building, after HypergraphBuilder of hypergraph.rs. Edges are written straight to the caller's lists. The earlier joins, the
-// leaves and the pile stand in two lists of sections of 64 places. numbers: the joins' types, then the leaves' first columns and their column
-// counts. sets: the pile, then the joins' left and right leaves and their left and right record sets. The builder says how many places count.
+// The state of edge building, after HypergraphBuilder of hypergraph.rs: the leaves, the joins and the pile so far. Edges are written straight
+// to the caller's lists; the builder says how many of their places count.
 #![tactic(auto)]
 
-ghost use Rattle.std.specs.Prelude.{◌≡◌, List, [], ◌∷◌, ◌++◌, ℕ, ◌+◌, ◌<◌};
+ghost use Rattle.std.specs.Prelude.{◌≡◌, List, [], ◌∷◌, ◌++◌, ℕ, ◌+◌, ◌-◌, ◌<◌, ◌≤◌, length, get_or};
 ghost use Rattle.definition.specs.Edges.{edge_of};
 ghost use Rattle.ses.specs.View.{Fit, columns_at};
-ghost use Rattle.tes.specs.Views.{sides_of};
-ghost use Rattle.builder.specs.Builds.{EdgeLists, counted, edge_lists, state, edges_in, build_of, with_leaf, with_record, more_edges, one_join, one_leaf, Longer, Added, Places, RoomFor, LeavesFit};
+ghost use Rattle.tes.specs.Views.{sides_of, join_of};
+ghost use Rattle.builder.specs.Builds.{empty, edge_lists_of, SameEdgeLists, edges_in, predicate_number, build_of, ForAllLists};
+ghost use Rattle.builder.specs.Builds.{with_leaf, with_record, more_edges, one_join, one_leaf, Longer, Added, RoomFor, LeavesFit};
 
+use arrayvec::ArrayVec;
+use nodeset::{NONE, NodeId, PredicateId};
 use sheet::Range;
-use tes::Sides;
+use tes::{JoinRecord, Sides};
 
-// Where the leaves' first columns begin in numbers.
-pub const FIRST: usize = 64;
+// The caller's lists, one for each field of an edge.
+// kept: parallel lists, as the caller lends them.
+#[derive(Drop)]
+pub struct EdgeLists<'a> {
+    pub left: &'a mut [u64],
+    pub right: &'a mut [u64],
+    pub predicate: &'a mut [u32],
+    pub source: &'a mut [u32],
+    pub kind: &'a mut [u32],
+}
 
-// Where the leaves' column counts begin in numbers.
-pub const COUNT: usize = 128;
-
-// Where the joins' left leaves begin in sets.
-pub const LEFT_NODES: usize = 64;
-
-// Where the joins' right leaves begin in sets.
-pub const RIGHT_NODES: usize = 128;
-
-// Where the joins' left record sets begin in sets.
-pub const TES_LEFT: usize = 192;
-
-// Where the joins' right record sets begin in sets.
-pub const TES_RIGHT: usize = 256;
-
-#[derive(Clone, Copy)]
+// How many edges there are, the range of columns of each leaf, the joins so far, and the pile, its top last, each thing on it as its set of
+// leaves.
+#[derive(Clone, Drop)]
 pub struct HypergraphBuilder {
     pub edges: usize,
-    pub joins: usize,
-    pub leaves: u32,
-    pub height: usize,
+    pub leaves: ArrayVec<Range, 64>,
+    pub joins: ArrayVec<JoinRecord, 64>,
+    pub pile: ArrayVec<u64, 64>,
 }
 
 impl HypergraphBuilder {
@@ -43,97 +40,81 @@ impl HypergraphBuilder {
     pub const EDGES: u64 = 256;
 
     pub fn new() -> Self
-        ensures { result ≡ counted 0 0 0 0 }
+        ensures { result ≡ empty }
     {
         Self {
             edges: 0,
-            joins: 0,
-            leaves: 0,
-            height: 0,
+            leaves: ArrayVec::new(),
+            joins: ArrayVec::new(),
+            pile: ArrayVec::new(),
         }
     }
 
-    // One edge more. p: the predicate, or none; k: the source item; t: the type.
+    // One edge more: its sides, its predicate, its source item and its type.
+    // kept: any number is a type here.
+    #[tactic(auto, using(crate::specs::Laws::edges_more))]
     pub fn add_edge(
-        self,
-        left: &mut [u64],
-        right: &mut [u64],
-        predicate: &mut [u32],
-        source: &mut [u32],
-        kind: &mut [u32],
+        &mut self,
+        lists: &mut EdgeLists<'_>,
         x: Sides,
-        p: u32,
+        p: Option<PredicateId>,
         k: u32,
         t: u32,
-    ) -> Self
-        requires { Longer (self.edges + 1) (edge_lists left.old right.old predicate.old source.old kind.old) }
-        ensures counts { result ≡ more_edges 1 self }
-        ensures edges { edges_in (self.edges + 1) (edge_lists left.new right.new predicate.new source.new kind.new) ≡ edges_in self.edges (edge_lists left.old right.old predicate.old source.old kind.old) ++ (edge_of (sides_of x) p k t ∷ []) }
-        ensures rest { Added self.edges (self.edges + 1) (edge_lists left.old right.old predicate.old source.old kind.old) (edge_lists left.new right.new predicate.new source.new kind.new) }
+    )
+        requires { Longer (self.old.edges + 1) (edge_lists_of lists.old) }
+        ensures same { SameEdgeLists lists.old lists.new }
+        ensures counts { self.new ≡ more_edges 1 self.old }
+        ensures edges { edges_in (self.old.edges + 1) (edge_lists_of lists.new)
+            ≡ edges_in self.old.edges (edge_lists_of lists.old) ++ (edge_of (sides_of x) (predicate_number p) k t ∷ []) }
+        ensures rest { Added self.old.edges (self.old.edges + 1) (edge_lists_of lists.old) (edge_lists_of lists.new) }
     {
         let e = self.edges;
-        left[e] = x.left;
-        right[e] = x.right;
-        predicate[e] = p;
-        source[e] = k;
-        kind[e] = t;
-        Self {
-            edges: e + 1,
-            joins: self.joins,
-            leaves: self.leaves,
-            height: self.height,
+        lists.left[e] = x.left;
+        lists.right[e] = x.right;
+        lists.predicate[e] = p.map_or(NONE, |p| p.0);
+        lists.source[e] = k;
+        lists.kind[e] = t;
+        self.edges = e + 1;
+    }
+
+    // The sides of the join that takes the two top things off the pile: the right one lies on the left one.
+    pub fn top_two(&self) -> Sides
+        requires { 2 ≤ length self.now.pile.items }
+        ensures left { result.left ≡ get_or self.now.pile.items (length self.now.pile.items - 2) 0 }
+        ensures right { result.right ≡ get_or self.now.pile.items (length self.now.pile.items - 1) 0 }
+    {
+        let pile = self.pile.as_slice();
+        let n = pile.len();
+        Sides {
+            left: pile[n - 2],
+            right: pile[n - 1],
         }
     }
 
-    // The record of a join of the two top things on the pile, l and r, and the join in their place.
-    pub fn add_join(
-        self,
-        numbers: &mut [u32],
-        sets: &mut [u64],
-        t: u32,
-        l: u64,
-        r: u64,
-        x: Sides,
-    ) -> Self
-        requires { RoomFor self × Places numbers.old sets.old }
-        ensures counts { result ≡ one_join self }
-        ensures built { (sheet : List ℕ) (e : EdgeLists) → build_of sheet (state (one_join self) e numbers.new sets.new) ≡ with_record t l r (sides_of x) (build_of sheet (state self e numbers.old sets.old)) }
-        ensures leaves { (sheet : List ℕ) → LeavesFit sheet self numbers.old → LeavesFit sheet self numbers.new }
+    // The record of a join of the two top things on the pile, and the join in their place.
+    #[tactic(auto, using(crate::specs::Laws::record_built))]
+    pub fn add_join(&mut self, j: JoinRecord)
+        requires { RoomFor self.old }
+        ensures counts { self.new ≡ one_join j self.old }
+        ensures built { ForAllLists (λ sheet e. build_of sheet self.new e ≡ with_record (join_of j) (build_of sheet self.old e)) }
+        ensures leaves { (sheet : List ℕ) → LeavesFit sheet self.old → LeavesFit sheet self.new }
     {
-        let j = self.joins;
-        let top = self.height - 2;
-        numbers[j] = t;
-        sets[LEFT_NODES + j] = l;
-        sets[RIGHT_NODES + j] = r;
-        sets[TES_LEFT + j] = x.left;
-        sets[TES_RIGHT + j] = x.right;
-        sets[top] = l | r;
-        Self {
-            edges: self.edges,
-            joins: j + 1,
-            leaves: self.leaves,
-            height: top + 1,
-        }
+        let top = self.pile.len() - 2;
+        self.joins.push(j);
+        self.pile.truncate(top);
+        self.pile.push(j.left_nodes | j.right_nodes);
     }
 
     // One leaf more, with its range of columns.
-    pub fn add_leaf(self, numbers: &mut [u32], sets: &mut [u64], p: Range) -> Self
-        requires { (self.leaves < 64) × (self.height < 64) × Places numbers.old sets.old }
-        ensures counts { result ≡ one_leaf self }
-        ensures built { (sheet : List ℕ) (e : EdgeLists) → build_of sheet (state (one_leaf self) e numbers.new sets.new) ≡ with_leaf self.leaves (columns_at sheet p.first p.count) (build_of sheet (state self e numbers.old sets.old)) }
-        ensures leaves { (sheet : List ℕ) → LeavesFit sheet self numbers.old → Fit sheet p.first p.count → LeavesFit sheet (one_leaf self) numbers.new }
+    pub fn add_leaf(&mut self, p: Range)
+        requires { (length self.old.leaves.items < 64) × (length self.old.pile.items < 64) }
+        ensures counts { self.new ≡ one_leaf p self.old }
+        ensures built { ForAllLists (λ sheet e. build_of sheet self.new e
+            ≡ with_leaf (length self.old.leaves.items) (columns_at sheet p.first p.count) (build_of sheet self.old e)) }
+        ensures leaves { (sheet : List ℕ) → LeavesFit sheet self.old → Fit sheet p.first p.count → LeavesFit sheet self.new }
     {
-        let k = self.leaves;
-        let i = k as usize;
-        let h = self.height;
-        numbers[FIRST + i] = p.first;
-        numbers[COUNT + i] = p.count;
-        sets[h] = nodeset::nodeset_singleton(nodeset::NodeId(k));
-        Self {
-            edges: self.edges,
-            joins: self.joins,
-            leaves: k + 1,
-            height: h + 1,
-        }
+        let leaf = NodeId(self.leaves.len() as u32);
+        self.leaves.push(p);
+        self.pile.push(nodeset::nodeset_singleton(leaf));
     }
 }

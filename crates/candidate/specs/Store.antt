@@ -1,7 +1,7 @@
 -- The state of the search as it lies in the lent lists: nine lists and four counts; and what kept, visit and attempt make of it.
-use Rattle.std.specs.Prelude.{◌≡◌, List, [], Bool, true, false, ℕ, ◌+◌, get_or, set, take, ltb, eqb, Float}
+use Rattle.std.specs.Prelude.{◌≡◌, List, [], Bool, true, false, ℕ, ◌+◌, get_or, set, take, ltb, eqb, Float, Option, None, Some, is_some}
 use Rattle.std.specs.Int.Bits.{bit_or}
-use Rattle.definition.specs.Answers.{plans_full, memo_full}
+use Rattle.nodeset.specs.declared.PlanId.{PlanId}
 use Rattle.nodeset.specs.Sets.{singleton}
 use Rattle.definition.specs.Question.{inner, cross_product, leaf}
 use Rattle.definition.specs.Hypergraph.{Edge, none32}
@@ -10,17 +10,12 @@ use Rattle.definition.specs.Cost.{Estimate, product, candidate_from, cheaper}
 use Rattle.definition.specs.Connection.{Connection, connection}
 use Rattle.cost.specs.declared.Estimate as declared
 use Rattle.store.specs.declared.DPhyp.{DPhyp}
-use Rattle.store.specs.declared.Found.{Found}
-use Rattle.store.specs.declared.Found.TheVariants.{At, Nothing}
-use Rattle.store.specs.declared.Kept.{Kept}
-use Rattle.store.specs.declared.Kept.TheVariants.{Plan, Absent}
+use Rattle.store.specs.declared.Stop.TheVariants.{PlansFull, MemoFull}
 use Rattle.store.specs.Counts.{counts, visit_of}
 use Rattle.store.specs.Memo.{spot, kept_of, is_at, plan_id}
 use Rattle.store.specs.Estimates.{estimate_at}
 use Rattle.candidate.specs.declared.Candidate.{Candidate}
 use Rattle.candidate.specs.declared.Place.{Place}
-use Rattle.candidate.specs.declared.Room.{Room}
-use Rattle.candidate.specs.declared.Room.TheVariants.{Here, Full}
 use Rattle.candidate.specs.declared.Due.{Due}
 use Rattle.candidate.specs.declared.Due.TheVariants.{Make, Stop, Skip}
 
@@ -67,7 +62,7 @@ edges g = edges_of g.n g.left g.right g.predicate g.source []
 
 -- ---- the memo
 
-abbrev pub spot_of : Lists → DPhyp → ℕ → Found
+abbrev pub spot_of : Lists → DPhyp → ℕ → Option ℕ
 spot_of h p s = spot 0 (take p.memo h.mset) s
 
 abbrev pub kept : Store → ℕ → Bool
@@ -91,10 +86,10 @@ abbrev pub place : ℕ → ℕ → ℕ → Place
 place position best entries = record { position = position; best = plan_id best; entries = entries }
 
 -- the memo's entry for plan number n with the estimate e: the new plan if the entry is new or the plan strictly cheaper, else the old one
-unfoldable pub place_of : List Float → List Float → List ℕ → ℕ → ℕ → ℕ → Estimate → Found → Room
-place_of prows pcost mplan memo room n e (At i) =
-    Here (place i (elim (cheaper e (estimate_at prows pcost (get_or mplan i 0))) [ true ↦ n | false ↦ get_or mplan i 0 ]) memo)
-place_of prows pcost mplan memo room n e Nothing = elim (ltb memo room) [ true ↦ Here (place memo n (memo + 1)) | false ↦ Full ]
+unfoldable pub place_of : List Float → List Float → List ℕ → ℕ → ℕ → ℕ → Estimate → Option ℕ → Option Place
+place_of prows pcost mplan memo room n e (Some i) =
+    Some (place i (elim (cheaper e (estimate_at prows pcost (get_or mplan i 0))) [ true ↦ n | false ↦ get_or mplan i 0 ]) memo)
+place_of prows pcost mplan memo room n e None = elim (ltb memo room) [ true ↦ Some (place memo n (memo + 1)) | false ↦ None ]
 
 abbrev pub as_struct : Estimate → declared.Estimate
 as_struct e = record { rows = e.rows; cost = e.cost }
@@ -102,9 +97,9 @@ as_struct e = record { rows = e.rows; cost = e.cost }
 abbrev pub made : ℕ → ℕ → ℕ → ℕ → Estimate → Place → Candidate
 made l r lead kind e p = record { left = plan_id l; right = plan_id r; lead = lead; kind = kind; estimate = as_struct e; place = p }
 
-unfoldable pub placed : ℕ → ℕ → ℕ → ℕ → Estimate → Room → Due
-placed l r lead kind e (Here p) = Make (made l r lead kind e p)
-placed l r lead kind e Full = Stop memo_full
+unfoldable pub placed : ℕ → ℕ → ℕ → ℕ → Estimate → Option Place → Due
+placed l r lead kind e (Some p) = Make (made l r lead kind e p)
+placed l r lead kind e None = Stop MemoFull
 
 abbrev pub at : Lists → ℕ → Estimate
 at h n = estimate_at h.prows h.pcost n
@@ -120,21 +115,21 @@ linked g h p s l r c =
                 let kind = kind_of c.filters (lead_kind g.source g.kinds c.lead) in
                 let e = candidate_from kind (at h l) (at h r) c.rows in
                 placed l r c.lead kind e (place_of h.prows h.pcost h.mplan p.memo g.memo_room p.plans e (spot_of h p s))
-            | false ↦ Stop plans_full
+            | false ↦ Stop PlansFull
           ]
     ]
 
-unfoldable pub paired : Given → Lists → DPhyp → ℕ → ℕ → Kept → Kept → Due
-paired g h p a b Absent r = Skip
-paired g h p a b (Plan l) Absent = Skip
-paired g h p a b (Plan l) (Plan r) =
+unfoldable pub paired : Given → Lists → DPhyp → ℕ → ℕ → Option PlanId → Option PlanId → Due
+paired g h p a b None r = Skip
+paired g h p a b (Some l) None = Skip
+paired g h p a b (Some l) (Some r) =
     linked g h p (bit_or a b) l.0 r.0 (connection (edges g) g.selectivity a b (product (at h l.0) (at h r.0)))
 
-abbrev pub plan_for : Lists → DPhyp → ℕ → Kept
+abbrev pub plan_for : Lists → DPhyp → ℕ → Option PlanId
 plan_for h p s = kept_of h.mplan (spot_of h p s)
 
 unfoldable pub due_of : Given → Lists → DPhyp → ℕ → ℕ → Due
-due_of g h p a b = elim (eqb p.stop 0) [ true ↦ paired g h p a b (plan_for h p a) (plan_for h p b) | false ↦ Skip ]
+due_of g h p a b = elim (is_some p.stop) [ true ↦ Skip | false ↦ paired g h p a b (plan_for h p a) (plan_for h p b) ]
 
 -- what decide says, whatever the lists that it is not lent
 abbrev pub Decides : Given → List Float → List Float → List ℕ → List ℕ → DPhyp → ℕ → ℕ → Due → Type 0
@@ -147,8 +142,8 @@ written h n s c =
 
 unfoldable pub applied : ℕ → Store → Due → Store
 applied s st Skip = st
-applied s st (Stop n) = store st.held (counts st.at.plans st.at.memo st.at.visits n)
-applied s st (Make c) = store (written st.held st.at.plans s c) (counts (st.at.plans + 1) c.place.entries st.at.visits 0)
+applied s st (Stop n) = store st.held (counts st.at.plans st.at.memo st.at.visits (Some n))
+applied s st (Make c) = store (written st.held st.at.plans s c) (counts (st.at.plans + 1) c.place.entries st.at.visits None)
 
 unfoldable pub attempt : Given → ℕ → ℕ → Store → Store
 attempt g a b st = applied (bit_or a b) st (due_of g st.held st.at a b)

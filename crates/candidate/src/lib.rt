@@ -1,16 +1,15 @@
-// What is due for a pair of sets, read from the lent stores: a candidate with all its fields and its memo entry, a stop, or nothing. A store is
-// one list for each field; of a plan's: prows, pcost; of a memo entry: mset, mplan.
+// What is due for a pair of sets, read from the lent stores: a candidate with all its fields and its memo entry, a stop, or nothing.
 #![tactic(auto)]
 
 ghost use Rattle.std.specs.Prelude.{◌≡◌, take};
 ghost use Rattle.cost.specs.View.{estimate_of};
-ghost use Rattle.definition.specs.EdgeView.{Held};
 ghost use Rattle.store.specs.Memo.{spot};
-ghost use Rattle.candidate.specs.Store.{given, kind_of, lead_kind, place_of, Decides};
+ghost use Rattle.candidate.specs.Store.{kind_of, lead_kind, place_of, Decides};
+ghost use Rattle.candidate.specs.Lent.{given_of};
 
 use cost::Estimate;
-use nodeset::{NONE, PlanId};
-use store::{DPhyp, Found, Kept};
+use nodeset::PlanId;
+use store::{DPhyp, Input, Stop};
 
 // A candidate's memo entry: its position, the plan that it is to name, and the number of entries with it.
 #[derive(Clone, Copy)]
@@ -20,12 +19,8 @@ pub struct Place {
     pub entries: u32,
 }
 
-#[derive(Drop)]
-pub enum Room {
-    Here(Place),
-    Full,
-}
-
+// A plan to be written.
+// kept: its lead edge and its kind are numbers, as the lent lists hold them.
 #[derive(Drop)]
 pub struct Candidate {
     pub left: PlanId,
@@ -37,33 +32,38 @@ pub struct Candidate {
 }
 
 // What is due for a pair: a candidate to be made, a stop, or nothing.
+// kept: a Result of an Option would call one of three equal outcomes an error.
 #[derive(Drop)]
 pub enum Due {
     Make(Candidate),
-    Stop(u32),
+    Stop(Stop),
     Skip,
 }
 
 // k: the kind of the lead edge's source item.
+// kept: a kind is a number, as the lent lists hold it.
+#[tactic(auto, unfolding(crate::specs::Store::kind_of))]
 fn candidate_kind(filters: bool, k: u32) -> u32
     ensures { result ≡ kind_of filters k }
 {
-    if !filters {
-        return 8;
+    match (filters, k) {
+        (false, _) => 8,
+        (true, 8) => 0,
+        (true, _) => k,
     }
-    if k == 8 {
-        return 0;
-    }
-    k
 }
 
+// The kind of the lead edge's source item.
+// kept: two lent lists of numbers, of which one says where to look in the other.
 fn lead_kind(source: &[u32], kinds: &[u32], lead: u32) -> u32
     ensures { result ≡ lead_kind source.now kinds.now lead }
 {
-    store::at32(kinds, store::at32(source, lead))
+    store::at(kinds, store::at(source, lead, 0), 0)
 }
 
-// The memo's entry for plan number n of the set s, with this estimate.
+// The memo's entry for plan number n of the set s, with this estimate; none where the set is new and the memo has no room.
+// kept: the count memo and the slices as in store's kept_plan.
+#[tactic(auto, unfolding(crate::specs::Store::place_of))]
 fn find_place(
     prows: &[f64],
     pcost: &[f64],
@@ -74,108 +74,77 @@ fn find_place(
     n: PlanId,
     s: u64,
     e: Estimate,
-) -> Room
+) -> Option<Place>
     ensures { result ≡ place_of prows.now pcost.now mplan.now memo room n.0 (estimate_of e) (spot 0 (take memo mset.now) s) }
 {
-    let Found::At(i) = store::find(mset, memo, s) else {
+    let Some(i) = store::find(mset, memo, s) else {
         if memo < room {
-            return Room::Here(Place {
+            return Some(Place {
                 position: memo,
                 best: n,
                 entries: memo + 1,
             });
         }
-        return Room::Full;
+        return None;
     };
-    let old = PlanId(store::at32(mplan, i));
-    if cost::cheaper(e, store::estimate_at(prows, pcost, old)) {
-        return Room::Here(Place {
-            position: i,
-            best: n,
-            entries: memo,
-        });
-    }
-    Room::Here(Place {
+    let old = PlanId(store::at(mplan, i, 0));
+    let best = if cost::cheaper(e, store::estimate_at(prows, pcost, old)) {
+        n
+    } else {
+        old
+    };
+    Some(Place {
         position: i,
-        best: old,
+        best: best,
         entries: memo,
     })
 }
 
 // What is due for the pair of sets a and b: reads only.
+// kept: shared slices, so that lists lent for reading alone will do.
+#[tactic(auto, unfolding(crate::specs::Store::due_of, crate::specs::Store::paired, crate::specs::Store::linked, crate::specs::Store::placed))]
 pub fn decide(
-    left: &[u64],
-    right: &[u64],
-    predicate: &[u32],
-    source: &[u32],
-    kinds: &[u32],
-    selectivity: &[u32],
-    n: u32,
+    g: &Input<'_>,
     prows: &[f64],
     pcost: &[f64],
     mset: &[u64],
     mplan: &[u32],
-    proom: u32,
-    mroom: u32,
     a: u64,
     b: u64,
     p: DPhyp,
 ) -> Due
-    requires { Held n left.now right.now predicate.now }
-    ensures { Decides (given n left.now right.now predicate.now source.now kinds.now selectivity.now proom mroom) prows.now pcost.now mset.now mplan.now p a b result }
+    ensures { Decides (given_of g.now) prows.now pcost.now mset.now mplan.now p a b result }
 {
-    let stop = p.stop;
-    let memo = p.memo;
-    let plans = p.plans;
-    if stop != 0 {
+    if p.stop.is_some() {
         return Due::Skip;
     }
-    let Kept::Plan(l) = store::kept_plan(mset, mplan, memo, a) else {
+    let Some(left) = store::kept_plan(mset, mplan, p.memo, a) else {
         return Due::Skip;
     };
-    let Kept::Plan(r) = store::kept_plan(mset, mplan, memo, b) else {
+    let Some(right) = store::kept_plan(mset, mplan, p.memo, b) else {
         return Due::Skip;
     };
-    let x = store::estimate_at(prows, pcost, l);
-    let y = store::estimate_at(prows, pcost, r);
-    let c = cost::connect(
-        left,
-        right,
-        predicate,
-        selectivity,
-        n,
-        a,
-        b,
-        cost::product(x, y),
-    );
-    let lead = c.lead;
-    if lead == NONE {
+    let x = store::estimate_at(prows, pcost, left);
+    let y = store::estimate_at(prows, pcost, right);
+    let c = cost::connect(&g.edges, g.selectivities, a, b, cost::product(x, y));
+    let Some(lead) = c.lead else {
         return Due::Skip;
+    };
+    if p.plans >= g.plan_room {
+        return Due::Stop(Stop::PlansFull);
     }
-    if plans >= proom {
-        return Due::Stop(DPhyp::PLANS_FULL);
-    }
-    let kind = candidate_kind(c.filters, lead_kind(source, kinds, lead));
+    let kind = candidate_kind(c.filters, lead_kind(g.edges.source, g.kinds, lead));
     let e = cost::candidate_estimate(kind, x, y, c.rows);
-    let Room::Here(place) = find_place(
-        prows,
-        pcost,
-        mset,
-        mplan,
-        memo,
-        mroom,
-        PlanId(plans),
-        a | b,
-        e,
-    ) else {
-        return Due::Stop(DPhyp::MEMO_FULL);
+    let n = PlanId(p.plans);
+    let Some(place) = find_place(prows, pcost, mset, mplan, p.memo, g.memo_room, n, a | b, e) else {
+        return Due::Stop(Stop::MemoFull);
     };
     Due::Make(Candidate {
-        left: l,
-        right: r,
-        lead: lead,
-        kind: kind,
+        left,
+        right,
+        lead,
+        kind,
         estimate: e,
-        place: place,
+        place,
     })
 }

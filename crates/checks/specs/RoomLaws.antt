@@ -1,7 +1,7 @@
 -- The lengths of the stores, and what a call that is not refused has room for. Assumes nothing.
-use Rattle.std.specs.Prelude.{◌≡◌, Bool, ◌||◌, List, [], ◌∷◌, ◌++◌, ℕ, zero, suc, ◌≤◌, ◌<◌}
-use Rattle.std.proofs.Math.Path.{refl}
-use Rattle.std.proofs.Common.{ap₂, ◌∙◌, arith}
+use Rattle.std.specs.Prelude.{◌≡◌, Bool, ◌||◌, List, [], ◌∷◌, ◌++◌, ℕ, zero, suc, ◌+◌, ◌≤◌, ◌<◌, min, length, get_or, drop}
+use Rattle.std.proofs.Math.Path.{refl, ap}
+use Rattle.std.proofs.Common.{ap₂, ◌∙◌, arith, add-one, drop-cons, drop_of_length-le}
 use Rattle.std.proofs.Math.Bool.{true, false}
 use Rattle.std.proofs.Math.Dec.{ltb}
 use borrow.Author.Tests.{ltb-false, lt-ltb, le-ltb}
@@ -22,7 +22,26 @@ pub store-rest : (n : ℕ) (ns : List ℕ) → store_length (n ∷ ns) ≤ store
 unfolding store_length
 store-rest n ns = omega arith
 
-pub rooms_eq : {a b c d e f : ℕ} → a ≡ d → b ≡ e → c ≡ f → ◌≡◌ {A = Rooms} (record { edges = a; plans = b; memo = c }) (record { edges = d; plans = e; memo = f })
+-- no longer than the longest that counts
+pub store_bound : (ns : List ℕ) → store_length ns ≤ 16777216
+unfolding store_length
+store_bound [] = omega arith
+store_bound (n ∷ ns) = omega (arith, store_bound ns)
+
+-- the lengths from place i on, one by one
+pub store_step : (ns : List ℕ) (i s t : ℕ) → i < length ns → t ≡ min s (get_or ns i 0)
+    → min t (store_length (drop (i + 1) ns)) ≡ min s (store_length (drop i ns))
+unfolding store_length
+store_step ns i s t h e =
+    let first : store_length (drop i ns) ≡ min (get_or ns i 0) (store_length (drop (i + 1) ns)) = rw add-one (ap store_length (drop-cons ns i 0 h)) in
+    omega (arith, first, e)
+
+pub store_end : (ns : List ℕ) (i : ℕ) → length ns ≤ i → store_length (drop i ns) ≡ 16777216
+unfolding store_length
+store_end ns i h = ap store_length (drop_of_length-le ns h)
+
+pub rooms_eq : {a b c d e f : ℕ} → a ≡ d → b ≡ e → c ≡ f
+    → ◌≡◌ {A = Rooms} (record { edges = a; plans = b; memo = c }) (record { edges = d; plans = e; memo = f })
 rooms_eq p q r = cc
 
 -- ---- 10 and 11, and neither
@@ -73,7 +92,12 @@ module _ (q : Question) (rooms : Rooms) where
       go false false true c e f g h z = absurd (omega arith)
       go false false false true e f g h z = absurd (omega arith)
       go false false false false e f g h z =
-          record { few = ltb-false 256 edges e; edges_fit = ltb-false rooms.edges edges f; plans_fit = ltb-false rooms.plans leaves g; memo_fit = ltb-false rooms.memo leaves h }
+          record {
+            few = ltb-false 256 edges e;
+            edges_fit = ltb-false rooms.edges edges f;
+            plans_fit = ltb-false rooms.plans leaves g;
+            memo_fit = ltb-false rooms.memo leaves h;
+          }
 
 -- a call that is not refused
 pub not_refused : (bs : List ℕ) (rooms : Rooms) → refused_with bs rooms ≡ 0 → (sheet_answer bs ≡ 0) × Room (question_of bs) rooms

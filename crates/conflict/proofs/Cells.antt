@@ -1,24 +1,30 @@
 -- Where one test finds every cell of the three tables of bits equal to document 01's, they say of every pair what document 01's tables say.
 -- Assumes nothing.
-use mathlib.Core.Path.{◌≡◌, refl, ap, ◌∙◌, subst}
+use mathlib.Core.Path.{◌≡◌, refl, ap, ◌∙◌}
 use mathlib.Core.Logic.{◌⊎◌, inl, inr}
-use mathlib.Core.Bool.{Bool, true, false, ◌&&◌, ◌||◌, not}
+use mathlib.Core.Bool.{Bool, true, false, ◌&&◌}
 use mathlib.Core.List.{List}
 use Prim.Native.Nat.{ℕ, zero, suc, ◌<◌, ◌≤◌}
 use native.Mathlib.Nat.{not-suc-le-zero, le_of_suc-le-suc, eq-or-lt_of_le}
 use native.Mathlib.Omega.{arith}
-use lib.Dec.{T, leb, eqb, eqb→eq}
+use lib.Dec.{T, leb}
 use borrow.Author.Tests.{leb-true, le-leb}
 use Rattle.definition.specs.Answers.{unknown_kind}
 use Rattle.definition.specs.Tables.{Asked, cell, refused, asked}
-use Rattle.conflict.specs.Views.{cells, Says, table_at}
+use Rattle.std.proofs.Common.{lit<, lit≤}
+use Rattle.conflict.specs.declared.HyperedgeJoinType.{HyperedgeJoinType}
+use Rattle.conflict.specs.declared.HyperedgeJoinType.TheVariants.{Inner, LeftSemi, LeftOuter, LeftOuterNullRejectingLeft, FullOuter}
+use Rattle.conflict.specs.declared.HyperedgeJoinType.TheVariants.{FullOuterNullRejectingLeft, FullOuterNullRejectingRight, FullOuterNullRejectingBoth}
+use Rattle.conflict.specs.declared.Table.{Table}
+use Rattle.conflict.specs.declared.Table.TheVariants.{Assoc, LAsscom, RAsscom}
+use Rattle.conflict.specs.Views.{cells, Says, table_at, type_number, place}
 
 -- the test passes at every number below n
 abbrev pub every : ℕ → (ℕ → Bool) → Bool
 every zero p = true
 every (suc n) p = p n && every n p
 
-every-at : (n : ℕ) (p : ℕ → Bool) → T (every n p) → (k : ℕ) → k < n → T (p k)
+pub every-at : (n : ℕ) (p : ℕ → Bool) → T (every n p) → (k : ℕ) → k < n → T (p k)
 every-at zero p t k h = absurd (not-suc-le-zero h)
 every-at (suc n) p t k h = go (p n) (every n p) t refl (λ l u. every-at n p u k l) (eq-or-lt_of_le (le_of_suc-le-suc h))
   where
@@ -77,7 +83,27 @@ asked-alike f g a b e = go (leb a 7) (leb b 7) (leb-true a 7) (leb-true b 7)
 pub says_asked : {tables : List (List ℕ)} {t a b : ℕ} {x : Asked} → Says tables t a b x → T (all_agree tables) → t < 3 → x ≡ asked (table_at t) a b
 says_asked {tables} {t} {a} {b} says s h = says.is ∙ asked-alike (cells tables t) (table_at t) a b (agrees_at tables s t a b h)
 
--- a rule for the numbers from lo up to hi, by one test over them
-pub between : (lo hi n : ℕ) (f : ℕ → ℕ) → T (every hi (λ k. not (leb lo k) || eqb n (f k))) → (k : ℕ) → lo ≤ k → k < hi → n ≡ f k
-between lo hi n f t k h l =
-    eqb→eq n (f k) (subst (λ (b : Bool). T (not b || eqb n (f k))) (le-leb lo k h) (every-at hi (λ k. not (leb lo k) || eqb n (f k)) t k l))
+-- what a table says of types is its cell
+pub asked_cell : (f : ℕ → ℕ → Bool) (a b : ℕ) → a ≤ 7 → b ≤ 7 → asked f a b ≡ cell (f a b)
+asked_cell f a b h k = rw (le-leb a 7 h, le-leb b 7 k, asked)
+
+-- what a table says of types, where the one test passes
+pub says_cell : {tables : List (List ℕ)} {t a b : ℕ} {x : Bool} → Says tables t a b (cell x) → T (all_agree tables) → t < 3 → a ≤ 7 → b ≤ 7 → x ≡ table_at t a b
+says_cell {tables} {t} {a} {b} {x} says s h k l =
+    let e : cell x ≡ cell (table_at t a b) = says_asked says s h ∙ asked_cell (table_at t) a b k l in
+    cc
+
+pub few_types : (t : HyperedgeJoinType) → type_number t ≤ 7
+few_types Inner = lit≤ tt
+few_types LeftSemi = lit≤ tt
+few_types LeftOuter = lit≤ tt
+few_types LeftOuterNullRejectingLeft = lit≤ tt
+few_types FullOuter = lit≤ tt
+few_types FullOuterNullRejectingLeft = lit≤ tt
+few_types FullOuterNullRejectingRight = lit≤ tt
+few_types FullOuterNullRejectingBoth = lit≤ tt
+
+pub few_tables : (t : Table) → place t < 3
+few_tables Assoc = lit< tt
+few_tables LAsscom = lit< tt
+few_tables RAsscom = lit< tt

@@ -1,2 +1,3 @@
 -- Laws that only the proofs of this crate use.
 pub mod Cells
+pub mod StandingLaws

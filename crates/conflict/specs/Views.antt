@@ -1,13 +1,14 @@
 -- The declared enums by document 01's numbers, and a table's rows of bits as the cells that they hold.
-use Rattle.std.specs.Prelude.{◌≡◌, ℕ, zero, suc, Bool, List, [], get_or, eqb}
+use Rattle.std.specs.Prelude.{◌≡◌, ℕ, zero, suc, ◌<◌, Bool, List, [], get_or, eqb, Result, Ok, Err, MatchResult}
 use Rattle.nodeset.specs.Sets.{bit}
 use Rattle.definition.specs.Answers.{unknown_kind}
 use Rattle.definition.specs.Tables.{Asked, cell, refused, asked, assoc, l_asscom, r_asscom}
 use Rattle.conflict.specs.declared.HyperedgeJoinType.{HyperedgeJoinType}
 use Rattle.conflict.specs.declared.HyperedgeJoinType.TheVariants.{Inner, LeftSemi, LeftOuter, LeftOuterNullRejectingLeft, FullOuter}
 use Rattle.conflict.specs.declared.HyperedgeJoinType.TheVariants.{FullOuterNullRejectingLeft, FullOuterNullRejectingRight, FullOuterNullRejectingBoth}
-use Rattle.conflict.specs.declared.Compatibility.{Compatibility}
-use Rattle.conflict.specs.declared.Compatibility.TheVariants.{Cell, UnknownType}
+use Rattle.conflict.specs.declared.UnknownType.{UnknownType}
+use Rattle.conflict.specs.declared.Table.{Table}
+use Rattle.conflict.specs.declared.Table.TheVariants.{Assoc, LAsscom, RAsscom}
 
 -- "Types: 0 Inner, 1 LeftSemi, 2 LeftOuter, 3 LeftOuterNullRejectingLeft, 4 FullOuter, 5, 6, 7 FullOuter rejecting left, right, both."
 abbrev pub type_number : HyperedgeJoinType → ℕ
@@ -20,10 +21,20 @@ type_number FullOuterNullRejectingLeft = 5
 type_number FullOuterNullRejectingRight = 6
 type_number FullOuterNullRejectingBoth = 7
 
+-- the result is the type with this number, or the number is above every type's
+abbrev pub Numbered : ℕ → Result HyperedgeJoinType UnknownType → Type 0
+Numbered n r = MatchResult r (λ t. type_number t ≡ n) (λ e. 7 < n)
+
 -- what a table's answer is in document 01: its cell, or answer 4
-abbrev pub asked_of : Compatibility → Asked
-asked_of (Cell b) = cell b
-asked_of UnknownType = refused unknown_kind
+abbrev pub asked_of : Result Bool UnknownType → Asked
+asked_of (Ok b) = cell b
+asked_of (Err e) = refused unknown_kind
+
+-- a table's place
+abbrev pub place : Table → ℕ
+place Assoc = 0
+place LAsscom = 1
+place RAsscom = 2
 
 -- Document 02, 2026-12: "bit j of row i for the pair i, j". t: the table's place; a bit of 1 is a yes cell
 abbrev pub cells : List (List ℕ) → ℕ → ℕ → ℕ → Bool

@@ -3,11 +3,12 @@
 
 ghost use Rattle.std.specs.Prelude.{◌≡◌, ℕ, ◌<◌};
 ghost use Rattle.definition.specs.Tables.{type_of, assoc, l_asscom, r_asscom, asked};
-ghost use Rattle.conflict.specs.Views.{type_number, asked_of, table_at, Says};
+ghost use Rattle.conflict.specs.Views.{type_number, asked_of, table_at, place, Says, Numbered};
 
 // A join as the tables know it: document 01's types 0 to 7, in that order.
-#[derive(Drop)]
+#[derive(Clone, Copy, Debug, Default, PartialEq, Eq)]
 pub enum HyperedgeJoinType {
+    #[default]
     Inner,
     LeftSemi,
     LeftOuter,
@@ -18,11 +19,16 @@ pub enum HyperedgeJoinType {
     FullOuterNullRejectingBoth,
 }
 
-// What a table says of two type numbers: its cell, or that one of them is no type.
-#[derive(Drop)]
-pub enum Compatibility {
-    Cell(bool),
-    UnknownType,
+// A number that is no type's.
+#[derive(Clone, Copy, Debug, PartialEq, Eq)]
+pub struct UnknownType;
+
+// The three tables, by their places.
+#[derive(Clone, Copy)]
+enum Table {
+    Assoc,
+    LAsscom,
+    RAsscom,
 }
 
 // The three tables, eight rows of eight bits each: bit j of row i is 1 where the table allows the reordering for the types i, j.
@@ -37,6 +43,8 @@ const TABLES: [[u8; 8]; 3] = [ASSOC, L_ASSCOM, R_ASSCOM];
 
 impl HyperedgeJoinType {
     // The type of a join of this item kind. RightOuter is not turned around. Kinds above 8 are no joins, and are given Inner.
+    // kept: several kinds have one type, and a kind's number is another than its type's, which TryFrom reads.
+    #[tactic(auto, unfolding(definition::specs::Tables::type_of, definition::specs::Lists::member))]
     pub fn from_join_type(kind: u32) -> Self
         ensures { type_number result ≡ type_of kind }
     {
@@ -49,62 +57,89 @@ impl HyperedgeJoinType {
     }
 
     // The type's number.
+    // kept: a method, whose contract ties the cast to the definition's number.
     pub fn number(self) -> u32
         ensures { result ≡ type_number self }
     {
-        match self {
-            Self::Inner => 0,
-            Self::LeftSemi => 1,
-            Self::LeftOuter => 2,
-            Self::LeftOuterNullRejectingLeft => 3,
-            Self::FullOuter => 4,
-            Self::FullOuterNullRejectingLeft => 5,
-            Self::FullOuterNullRejectingRight => 6,
-            Self::FullOuterNullRejectingBoth => 7,
+        self as u32
+    }
+}
+
+// The type of this number.
+impl TryFrom<u32> for HyperedgeJoinType {
+    type Error = UnknownType;
+
+    ghost try_from_gives = { Numbered };
+
+    fn try_from(number: u32) -> Result<Self, UnknownType> {
+        match number {
+            0 => Ok(Self::Inner),
+            1 => Ok(Self::LeftSemi),
+            2 => Ok(Self::LeftOuter),
+            3 => Ok(Self::LeftOuterNullRejectingLeft),
+            4 => Ok(Self::FullOuter),
+            5 => Ok(Self::FullOuterNullRejectingLeft),
+            6 => Ok(Self::FullOuterNullRejectingRight),
+            7 => Ok(Self::FullOuterNullRejectingBoth),
+            _ => Err(UnknownType),
         }
     }
 }
 
-// Bit b of row a of the table at a place, or that a or b is no type.
-fn look_up(tables: [[u8; 8]; 3], table: usize, a: u32, b: u32) -> Compatibility
-    requires { table < 3 }
-    ensures { Says tables table a b (asked_of result) }
-{
-    if a > 7 {
-        return Compatibility::UnknownType;
+impl Table {
+    // kept: a method, whose contract ties the cast to the definition's place.
+    fn place(self) -> usize
+        ensures { result ≡ place self }
+    {
+        self as usize
     }
-    if b > 7 {
-        return Compatibility::UnknownType;
-    }
-    let row = a as usize;
-    Compatibility::Cell((tables[table][row] >> b) % 2 == 1)
 }
 
-// What assoc (place 0), l_asscom (1) or r_asscom (2) says of the types a, b.
-fn ask(table: usize, a: u32, b: u32) -> Compatibility
-    requires { table < 3 }
-    ensures { asked_of result ≡ asked (table_at table) a b }
+// Bit b of row a of a table.
+fn look_up(tables: [[u8; 8]; 3], table: Table, a: HyperedgeJoinType, b: HyperedgeJoinType) -> bool
+    ensures { Says tables (place table) (type_number a) (type_number b) (asked_of (Ok result)) }
+{
+    let row = a.number() as usize;
+    (tables[table.place()][row] >> b.number()) % 2 == 1
+}
+
+// Whether a table allows the reordering for joins of the types a, b.
+fn allows(table: Table, a: HyperedgeJoinType, b: HyperedgeJoinType) -> bool
+    ensures { result ≡ table_at (place table) (type_number a) (type_number b) }
 {
     look_up(TABLES, table, a, b)
 }
 
-// Whether the table allows (x a y) b z to become x a (y b z), for joins of the types a, b.
-pub fn assoc(a: u32, b: u32) -> Compatibility
+// What a table says of the types with the numbers a, b.
+// kept: any two numbers may be asked, of this and of the three below.
+fn ask(table: Table, a: u32, b: u32) -> Result<bool, UnknownType>
+    ensures { asked_of result ≡ asked (table_at (place table)) a b }
+{
+    let a = HyperedgeJoinType::try_from(a)?;
+    let b = HyperedgeJoinType::try_from(b)?;
+    Ok(allows(table, a, b))
+}
+
+// Whether the table allows (x a y) b z to become x a (y b z), for joins of the types with the numbers a, b.
+// kept: any two numbers may be asked.
+pub fn assoc(a: u32, b: u32) -> Result<bool, UnknownType>
     ensures { asked_of result ≡ asked assoc a b }
 {
-    ask(0, a, b)
+    ask(Table::Assoc, a, b)
 }
 
-// Whether the table allows (x a y) b z to become (x b z) a y, for joins of the types a, b.
-pub fn l_asscom(a: u32, b: u32) -> Compatibility
+// Whether the table allows (x a y) b z to become (x b z) a y, for joins of the types with the numbers a, b.
+// kept: any two numbers may be asked.
+pub fn l_asscom(a: u32, b: u32) -> Result<bool, UnknownType>
     ensures { asked_of result ≡ asked l_asscom a b }
 {
-    ask(1, a, b)
+    ask(Table::LAsscom, a, b)
 }
 
-// Whether the table allows x a (y b z) to become y b (x a z), for joins of the types a, b.
-pub fn r_asscom(a: u32, b: u32) -> Compatibility
+// Whether the table allows x a (y b z) to become y b (x a z), for joins of the types with the numbers a, b.
+// kept: any two numbers may be asked.
+pub fn r_asscom(a: u32, b: u32) -> Result<bool, UnknownType>
     ensures { asked_of result ≡ asked r_asscom a b }
 {
-    ask(2, a, b)
+    ask(Table::RAsscom, a, b)
 }

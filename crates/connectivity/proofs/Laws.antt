@@ -1,5 +1,5 @@
 -- Loops over the classes, against their definitions. Assumes nothing.
-use mathlib.Core.Path.{◌≡◌, refl, sym, ap, ap₂, ◌∙◌, subst}
+use mathlib.Core.Path.{◌≡◌, refl, sym, ap, ap₂, ◌∙◌}
 use mathlib.Core.Bool.{Bool, true, false, not, ◌&&◌}
 use mathlib.Core.List.{List, [], ◌∷◌, ◌++◌, map, map-append}
 use Prim.Native.Nat.{ℕ, zero, suc, ◌+◌, ◌-◌, ◌≤◌, ◌<◌}
@@ -7,10 +7,11 @@ use native.Mathlib.Nat.{not-suc-le-zero, add-zero}
 use native.Mathlib.Numerals.{add-one}
 use native.Mathlib.Omega.{arith}
 use lib.ListN.{length, get_or, take, drop, set, length-set}
-use lib.Seq.{take-suc, take-suc-set, drop-cons, drop-drop, drop-set-lt, set-get_or, take_all, get_or-drop, slice, slice-cons, slice_empty}
-use lib.Bits.{bit_and, bit_or, and_zero_l}
+use lib.Seq.{take-suc, take-suc-set, drop-cons, drop-drop, drop-set-lt, take_all, get_or-drop}
+use Rattle.std.proofs.Common.{drop_of_length-le}
+use lib.Bits.{bit_or, and_zero_l}
 use lib.Dec.{eqb}
-use Rattle.nodeset.specs.Sets.{lowest}
+use Rattle.nodeset.specs.Sets.{lowest, disjoint}
 use borrow.Author.Tests.{eq-eqb, ne_eqb}
 use Rattle.definition.specs.Connected.{own_classes, one_class, met, merge, merges, round, rounds, connected}
 
@@ -38,48 +39,46 @@ module _ (f : ℕ → ℕ) (l₀ : List ℕ) (j : ℕ) (l : List ℕ) (m : Mappe
         tail = drop-set-lt (j + 1) l j v (omega arith) ∙ sym (drop-drop 1 j l) ∙ ap (drop 1) m.tail ∙ drop-drop 1 j l₀;
       }
 
-  pub mapped_keep : j < length l₀ → get_or l j 0 ≡ f (get_or l j 0) → Mapped f l₀ (j + 1) l
-  mapped_keep h e = subst (λ (k : List ℕ). Mapped f l₀ (j + 1) k) (set-get_or l j 0) (mapped_store (get_or l j 0) h e)
+  -- the same of a list that is the written one
+  pub mapped_one : {k : List ℕ} (v : ℕ) → j < length l₀ → v ≡ f (get_or l j 0) → k ≡ set l j v → Mapped f l₀ (j + 1) k
+  mapped_one v h e q = rw q (mapped_store v h e)
 
   pub mapped_all : length l₀ ≤ j → l ≡ map f l₀
   mapped_all h = sym (take_all j l (omega (arith, m.len))) ∙ m.head ∙ ap (map f) (take_all j l₀ h)
 
--- ---- met: one element more, which meets s or not
-pub met_with : (s t : ℕ) (l : List ℕ) (i v : ℕ) → i < length l → (bit_and (get_or l i 0) s ≡ 0 → ⊥) → v ≡ bit_or t (get_or l i 0) → met s v (drop (i + 1) l) ≡ met s t (drop i l)
-unfolding met
-met_with s t l i v h m e =
-    let x = get_or l i 0 in
-    rw (add-one, drop-cons l i 0 h) (ap (λ (u : ℕ). met s u (drop (suc i) l)) (e ∙ ap (λ (b : Bool). elim b [ true ↦ t | false ↦ bit_or t x ]) (sym (ne_eqb (bit_and x s) 0 m))))
+-- what becomes of a class p where the classes that meet s become all
+abbrev pub into : ℕ → ℕ → ℕ → ℕ
+into s all p = (elim (disjoint p s) [ true ↦ p | false ↦ all ])
 
-pub met_without : (s t : ℕ) (l : List ℕ) (i v : ℕ) → i < length l → bit_and (get_or l i 0) s ≡ 0 → v ≡ t → met s v (drop (i + 1) l) ≡ met s t (drop i l)
+pub into_by : (s all p : ℕ) (b : Bool) → disjoint p s ≡ b → elim b [ true ↦ p | false ↦ all ] ≡ into s all p
+into_by s all p b e = ap (λ (x : Bool). elim x [ true ↦ p | false ↦ all ]) (sym e)
+
+-- ---- met: one element more, which meets s or not
+module _ (s t : ℕ) (l : List ℕ) (i v : ℕ) (h : i < length l) where
+  abbrev meets : Bool → ℕ
+  meets b = elim b [ true ↦ t | false ↦ bit_or t (get_or l i 0) ]
+
+  pub met_one : (b : Bool) → disjoint (get_or l i 0) s ≡ b → v ≡ meets b → met s v (drop (i + 1) l) ≡ met s t (drop i l)
+  unfolding met
+  met_one b m e = rw (add-one, drop-cons l i 0 h) (ap (λ (u : ℕ). met s u (drop (suc i) l)) (e ∙ ap meets (sym m)))
+
+pub met_none : (s t : ℕ) (l : List ℕ) (i : ℕ) → length l ≤ i → met s t (drop i l) ≡ t
 unfolding met
-met_without s t l i v h m e =
-    let x = get_or l i 0 in
-    rw (add-one, drop-cons l i 0 h) (ap (λ (u : ℕ). met s u (drop (suc i) l)) (e ∙ ap (λ (b : Bool). elim b [ true ↦ t | false ↦ bit_or t x ]) (sym (eq-eqb (bit_and x s) 0 m))))
+met_none s t l i h = rw (drop_of_length-le l h)
 
 -- ---- round: one edge more, which merges or not
-module _ (skip n : ℕ) (ls rs : List ℕ) (i : ℕ) (a : n ≤ length ls) (b : n ≤ length rs) (h : i < n) where
-  round_step : (ps : List ℕ) →
-      round skip (slice (i + 1) n ls) (slice (i + 1) n rs) (elim (merges skip (get_or ls i 0) (get_or rs i 0) ps) [ true ↦ merge (bit_or (get_or ls i 0) (get_or rs i 0)) ps | false ↦ ps ])
-      ≡ round skip (slice i n ls) (slice i n rs) ps
+module _ (skip : ℕ) (ls rs : List ℕ) (i : ℕ) (a : i < length ls) (b : i < length rs) (ps qs : List ℕ) where
+  pub round_one : {x y : ℕ} (m : Bool) → x ≡ get_or ls i 0 → y ≡ get_or rs i 0 → merges skip x y ps ≡ m
+      → qs ≡ elim m [ true ↦ merge (bit_or x y) ps | false ↦ ps ]
+      → round skip (drop (i + 1) ls) (drop (i + 1) rs) qs ≡ round skip (drop i ls) (drop i rs) ps
   unfolding round
-  round_step ps = rw (add-one, slice-cons i n ls 0 h a, slice-cons i n rs 0 h b)
+  round_one {x} {y} m p q e f =
+      rw (add-one, drop-cons ls i 0 a, drop-cons rs i 0 b, ← p, ← q)
+      (ap (round skip (drop (suc i) ls) (drop (suc i) rs)) (f ∙ ap (λ (t : Bool). elim t [ true ↦ merge (bit_or x y) ps | false ↦ ps ]) (sym e)))
 
-  pub round_with : (ps qs : List ℕ) → merges skip (get_or ls i 0) (get_or rs i 0) ps ≡ true → qs ≡ merge (bit_or (get_or ls i 0) (get_or rs i 0)) ps
-      → round skip (slice (i + 1) n ls) (slice (i + 1) n rs) qs ≡ round skip (slice i n ls) (slice i n rs) ps
-  round_with ps qs e f =
-      let m = merge (bit_or (get_or ls i 0) (get_or rs i 0)) ps in
-      ap (round skip (slice (i + 1) n ls) (slice (i + 1) n rs)) (f ∙ ap (λ (t : Bool). elim t [ true ↦ m | false ↦ ps ]) (sym e)) ∙ round_step ps
-
-  pub round_without : (ps qs : List ℕ) → merges skip (get_or ls i 0) (get_or rs i 0) ps ≡ false → qs ≡ ps
-      → round skip (slice (i + 1) n ls) (slice (i + 1) n rs) qs ≡ round skip (slice i n ls) (slice i n rs) ps
-  round_without ps qs e f =
-      let m = merge (bit_or (get_or ls i 0) (get_or rs i 0)) ps in
-      ap (round skip (slice (i + 1) n ls) (slice (i + 1) n rs)) (f ∙ ap (λ (t : Bool). elim t [ true ↦ m | false ↦ ps ]) (sym e)) ∙ round_step ps
-
-pub round_done : (skip n : ℕ) (ls rs ps : List ℕ) → round skip (slice n n ls) (slice n n rs) ps ≡ ps
+pub round_done : (skip i : ℕ) (ls rs ps : List ℕ) → length ls ≤ i → round skip (drop i ls) (drop i rs) ps ≡ ps
 unfolding round
-round_done skip n ls rs ps = rw (slice_empty n ls)
+round_done skip i ls rs ps h = rw (drop_of_length-le ls h)
 
 -- ---- a round that changes nothing is the last that matters
 pub rounds_still : (k skip : ℕ) (ls rs ps : List ℕ) → round skip ls rs ps ≡ ps → rounds k skip ls rs ps ≡ ps
@@ -97,19 +96,6 @@ pub one_class_none : (s : ℕ) (ps : List ℕ) → s ≡ 0 → one_class s ps �
 unfolding one_class
 one_class_none s ps e = ap (λ (x : ℕ). one_class x ps) e ∙ eq-eqb _ 0 (and_zero_l (get_or ps (lowest 0) 0))
 
--- ---- when an edge merges
-and_false : (b c d : Bool) → b && false && c && d ≡ false
-and_false true c d = refl
-and_false false c d = refl
-
-pub merges-joined : (skip l r : ℕ) (ps : List ℕ) → one_class (bit_or l r) ps ≡ true → merges skip l r ps ≡ false
-unfolding merges
-merges-joined skip l r ps e = rw e (and_false (not (eqb (bit_or l r) skip)) (one_class l ps) (one_class r ps))
-
-pub merges_by : (skip l r : ℕ) (ps : List ℕ) → (bit_or l r ≡ skip → ⊥) → one_class (bit_or l r) ps ≡ false → merges skip l r ps ≡ (one_class l ps && one_class r ps)
-unfolding merges
-merges_by skip l r ps n e = rw (ne_eqb (bit_or l r) skip n, e)
-
 -- ---- connected
 none : (x c : Bool) → x && false && c ≡ false
 none true c = refl
@@ -121,9 +107,9 @@ module _ (ls rs : List ℕ) (a b skip : ℕ) where
   connected_none e =
       rw (eq-eqb b 0 e) (none (not (eqb a 0)) (one_class (bit_or a b) (rounds (length ls) skip ls rs (merge b (merge a own_classes)))))
 
-  pub connected_by : {n : ℕ} {p q r t : List ℕ} → (a ≡ 0 → ⊥) → (b ≡ 0 → ⊥) → n ≡ length ls → p ≡ own_classes → q ≡ merge a p → r ≡ merge b q → t ≡ rounds n skip ls rs r
+  pub connected_by : {p q r t : List ℕ} → (a ≡ 0 → ⊥) → (b ≡ 0 → ⊥) → p ≡ own_classes → q ≡ merge a p → r ≡ merge b q → t ≡ rounds (length ls) skip ls rs r
       → one_class (bit_or a b) t ≡ connected ls rs a b skip
   unfolding connected
-  connected_by {n} {p} {q} {r} {t} na nb en ep eq er et =
+  connected_by {p} {q} {r} {t} na nb ep eq er et =
       rw (ne_eqb a 0 na, ne_eqb b 0 nb)
-      (ap (one_class (bit_or a b)) (et ∙ ap₂ (λ (k : ℕ) (ps : List ℕ). rounds k skip ls rs ps) en (er ∙ ap (merge b) (eq ∙ ap (merge a) ep))))
+      (ap (one_class (bit_or a b)) (et ∙ ap (rounds (length ls) skip ls rs) (er ∙ ap (merge b) (eq ∙ ap (merge a) ep))))

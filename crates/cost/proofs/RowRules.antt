@@ -4,12 +4,11 @@ use mathlib.Core.Logic.{inl, inr}
 use Prim.Native.Nat.{ℕ, suc, ◌≤◌, ◌<◌}
 use native.Mathlib.Nat.{eq-or-lt_of_le}
 use native.Mathlib.Omega.{arith}
-use lib.ListN.{get_or-eq_default}
 use lib.Ieee.{Float}
-use Rattle.definition.specs.Cost.{RowRule, inner_rows, lesser, row_rules, rows_by_kind}
+use Rattle.definition.specs.Cost.{RowRule, lesser, rows_by_kind}
 
 -- two kinds that follow each other and have one rule
-pair : (f : RowRule) (n k : ℕ) → f ≡ rows_by_kind n → f ≡ rows_by_kind (suc n) → n ≤ k → k < suc (suc n) → f ≡ rows_by_kind k
+pub pair : (f : RowRule) (n k : ℕ) → f ≡ rows_by_kind n → f ≡ rows_by_kind (suc n) → n ≤ k → k < suc (suc n) → f ≡ rows_by_kind k
 pair f n k p q h l =
     elim (eq-or-lt_of_le h) [
       | inl e ↦ rw (sym e) p
@@ -18,14 +17,3 @@ pair f n k p q h l =
 
 pub semi : (k : ℕ) (e l r : Float) → 1 ≤ k → k < 3 → lesser e l ≡ rows_by_kind k e l r
 semi k e l r h g = ap (λ (f : RowRule). f e l r) (pair (λ e l r. lesser e l) 1 k refl refl h g)
-
-pub single : (k : ℕ) (e l r : Float) → 6 ≤ k → k < 8 → l ≡ rows_by_kind k e l r
-single k e l r h g = ap (λ (f : RowRule). f e l r) (pair (λ e l r. l) 6 k refl refl h g)
-
--- a cross product, and what is no join
-pub past : (k : ℕ) (e l r : Float) → 8 ≤ k → e ≡ rows_by_kind k e l r
-past k e l r h =
-    elim (eq-or-lt_of_le h) [
-      | inl q ↦ rw (sym q) refl
-      | inr g ↦ sym (ap (λ (f : RowRule). f e l r) (get_or-eq_default row_rules inner_rows g))
-    ]

@@ -1,24 +1,36 @@
 -- The crate's structs as the definition's records, and what its functions over the edges say of their results. Fields of edges that a
--- function is not lent may be any.
-use Rattle.std.specs.Prelude.{◌≡◌, Bool, List, ℕ, Float}
-use Rattle.definition.specs.Hypergraph.{connects}
+-- function does not read may be any.
+use Rattle.std.specs.Prelude.{◌≡◌, Bool, List, ℕ, length, unwrap_or, Float}
+use Rattle.definition.specs.Hypergraph.{Edge, none32, connects}
 use Rattle.definition.specs.Cost as cost
 use Rattle.definition.specs.Connection as connection
+use Rattle.definition.specs.Search as search
 use Rattle.definition.specs.EdgeView.{edges_of}
+use Rattle.cost.specs.declared.edges.Edges.{Edges}
+use Rattle.cost.specs.declared.Leaf.{Leaf}
 use Rattle.cost.specs.declared.Estimate.{Estimate}
 use Rattle.cost.specs.declared.Connection.{Connection}
+
+abbrev pub leaf_of : Leaf → search.Leaf
+leaf_of l = record { rows = l.rows; columns = l.columns }
 
 abbrev pub estimate_of : Estimate → cost.Estimate
 estimate_of e = record { rows = e.rows; cost = e.cost }
 
+-- no lead edge is the number that means none
 abbrev pub connection_of : Connection → connection.Connection
-connection_of c = record { lead = c.lead; filters = c.filters; rows = c.rows }
+connection_of c = record { lead = unwrap_or c.lead none32; filters = c.filters; rows = c.rows }
+
+-- the edges; the search does not read their types
+abbrev pub edges_with : Edges → List ℕ → List Edge
+edges_with e type = edges_of (length e.left.now) e.left.now e.right.now e.predicate.now e.source.now type
 
 -- t: whether an edge with these sides connects a and b
 abbrev pub Connects : ℕ → ℕ → ℕ → ℕ → Bool → Type 0
 Connects left right a b t = (p s k : ℕ) → t ≡ connects a b (record { left = left; right = right; predicate = p; source = s; type = k })
 
--- c: what the first n edges give for the candidate of a and b
-abbrev pub Connected : ℕ → List ℕ → List ℕ → List ℕ → List ℕ → ℕ → ℕ → Float → Connection → Type 0
-Connected n left right predicate selectivity a b product c =
-    (source type : List ℕ) → connection_of c ≡ connection.connection (edges_of n left right predicate source type) selectivity a b product
+-- c: what the edges give for the candidate of a and b
+abbrev pub Connected : Edges → List ℕ → ℕ → ℕ → Float → Connection → Type 0
+Connected e selectivities a b product c =
+    (source type : List ℕ)
+    → connection_of c ≡ connection.connection (edges_of (length e.left.now) e.left.now e.right.now e.predicate.now source type) selectivities a b product

@@ -1,69 +1,90 @@
 // Rows and cost of plans (CostModel of cost.rs, one model): of a leaf, and of a candidate over the edges that connect its two sets.
 #![tactic(auto)]
 
-ghost use Rattle.std.specs.Prelude.{◌≡◌, ◌&&◌, get_or};
+mod edges;
+
+ghost use Rattle.std.specs.Prelude.{◌≡◌, ◌<◌, ◌&&◌, length, get_or, IfSome, Some};
+ghost use Rattle.std.specs.Option.{option_or};
 ghost use Rattle.nodeset.specs.Sets.{within};
 ghost use Rattle.definition.specs.Cost.{whole, leaf_estimate, product, lesser, greater, capped, rows_by_kind, candidate_rows, candidate_from, cheaper};
-ghost use Rattle.definition.specs.EdgeView.{Held};
 ghost use Rattle.definition.specs.EdgeWalkLaws.{rows_after, with_edge};
 ghost use Rattle.cost.specs.View.{estimate_of, connection_of, Connects, Connected};
 
+pub use edges::Edges;
 use nodeset::{NONE, PredicateId};
 
 // 2^500
 const CEILING: f64 = 3.273390607896142e150;
 
+// A leaf's row count and the number of its columns.
+#[derive(Clone, Copy, Default)]
+pub struct Leaf {
+    pub rows: u64,
+    pub columns: u32,
+}
+
+// A plan's rows and cost.
 #[derive(Clone, Copy)]
 pub struct Estimate {
     pub rows: f64,
     pub cost: f64,
 }
 
-// What a candidate takes from the edges that connect its two sets: the lowest, whether one has a predicate, and what is left of the
-// product after the selectivities.
+// What a candidate takes from the edges that connect its two sets: the lowest of them, if any, whether one has a predicate, and what is
+// left of the product after the selectivities.
+// kept: filters is a flag of its own; lead and rows mean the same whether it is set or not.
 #[derive(Drop)]
 pub struct Connection {
-    pub lead: u32,
+    pub lead: Option<u32>,
     pub filters: bool,
     pub rows: f64,
 }
 
-// The nearest f64: a cast is exact up to 2^53 only, so the two halves are added.
+// The nearest f64.
+// kept: a cast is proved exact up to 2^53 only, so the two halves are added.
+#[tactic(auto, using(crate::proofs::Floats::whole_halves))]
 fn whole(n: u64) -> f64
     ensures { result ≡ whole n }
 {
     (n / 4294967296) as f64 * 4294967296.0 + (n % 4294967296) as f64
 }
 
-pub fn leaf_estimate(rows: u64, columns: u32) -> Estimate
-    ensures { estimate_of result ≡ leaf_estimate rows columns }
+// A leaf without columns counts as one with a column.
+pub fn leaf_estimate(leaf: Leaf) -> Estimate
+    ensures { estimate_of result ≡ leaf_estimate leaf.rows leaf.columns }
 {
-    let count = if columns == 0 { 1 } else { columns };
-    let x = whole(rows);
+    let rows = whole(leaf.rows);
     Estimate {
-        rows: x,
-        cost: x * (count as f64),
+        rows: rows,
+        cost: rows * (leaf.columns.max(1) as f64),
     }
 }
 
+// How many pairs of rows two plans have.
 pub fn product(left: Estimate, right: Estimate) -> f64
     ensures { result ≡ product (estimate_of left) (estimate_of right) }
 {
     left.rows * right.rows
 }
 
+// The lesser of the two, the second where they are equal.
+// kept: f64's own min and max do not say which of 0 and -0 they give.
 fn lesser(x: f64, y: f64) -> f64
     ensures { result ≡ lesser x y }
 {
     if x < y { x } else { y }
 }
 
+// kept: as lesser.
 fn greater(x: f64, y: f64) -> f64
     ensures { result ≡ greater x y }
 {
     if x < y { y } else { x }
 }
 
+// At most the ceiling.
+// kept: as lesser.
+#[tactic(auto, using(crate::proofs::Floats::over, crate::proofs::Floats::not_over))]
 fn capped(x: f64) -> f64
     ensures { result ≡ capped x }
 {
@@ -71,6 +92,7 @@ fn capped(x: f64) -> f64
 }
 
 // filtered: the estimate after the selectivities; left, right: the rows of the candidate's own two plans.
+// kept: kind is a number, as the lent lists of items and of plans hold it; a type of its own would be made here and unmade at once.
 fn rows_by_kind(kind: u32, filtered: f64, left: f64, right: f64) -> f64
     ensures { result ≡ rows_by_kind kind filtered left right }
 {
@@ -84,13 +106,16 @@ fn rows_by_kind(kind: u32, filtered: f64, left: f64, right: f64) -> f64
     }
 }
 
+// kept: kind is a number, as in rows_by_kind.
 fn candidate_rows(kind: u32, left: Estimate, right: Estimate, filtered: f64) -> f64
     ensures { result ≡ candidate_rows kind (estimate_of left) (estimate_of right) filtered }
 {
     capped(rows_by_kind(kind, filtered, left.rows, right.rows))
 }
 
-// filtered: what `connect` leaves of the product.
+// Rows and cost of a candidate of this kind over these two plans. filtered: what `connect` leaves of the product.
+// kept: kind is a number, as in rows_by_kind.
+#[tactic(auto, unfolding(definition::specs::Cost::candidate_from))]
 pub fn candidate_estimate(kind: u32, left: Estimate, right: Estimate, filtered: f64) -> Estimate
     ensures { estimate_of result ≡ candidate_from kind (estimate_of left) (estimate_of right) filtered }
 {
@@ -101,6 +126,7 @@ pub fn candidate_estimate(kind: u32, left: Estimate, right: Estimate, filtered: 
     }
 }
 
+// Whether a new plan replaces the kept one: only if it costs strictly less.
 pub fn cheaper(new: Estimate, kept: Estimate) -> bool
     ensures { result ≡ cheaper (estimate_of new) (estimate_of kept) }
 {
@@ -110,82 +136,72 @@ pub fn cheaper(new: Estimate, kept: Estimate) -> bool
 fn lie_in(left: u64, a: u64, right: u64, b: u64) -> bool
     ensures { result ≡ (within left a && within right b) }
 {
-    if nodeset::is_subset(left, a) {
-        return nodeset::is_subset(right, b);
-    }
-    false
+    nodeset::is_subset(left, a) && nodeset::is_subset(right, b)
 }
 
 // Whether an edge with these sides connects a and b.
 pub fn connects(left: u64, right: u64, a: u64, b: u64) -> bool
     ensures { Connects left right a b result }
 {
-    if lie_in(left, a, right, b) {
-        return true;
-    }
-    lie_in(left, b, right, a)
+    lie_in(left, a, right, b) || lie_in(left, b, right, a)
 }
 
 // 0 past the end.
-fn selectivity_of(selectivity: &[u32], p: PredicateId) -> u32
-    ensures { result ≡ get_or selectivity.now p.0 0 }
+// kept: the definition reads 0 there, and an Option would be unmade at once.
+fn selectivity_of(selectivities: &[u32], p: PredicateId) -> u32
+    ensures { result ≡ get_or selectivities.now p.0 0 }
 {
-    let k = p.0 as usize;
-    if k < selectivity.len() {
-        selectivity[k]
-    } else {
-        0
-    }
+    selectivities.get(p.0 as usize).copied().unwrap_or(0)
 }
 
-fn rows_after(selectivity: &[u32], p: PredicateId, rows: f64) -> f64
-    ensures { result ≡ rows_after selectivity.now p.0 rows }
+// kept: no predicate is the number NONE, as the lent list of predicates holds it.
+#[tactic(auto, unfolding(definition::specs::EdgeWalkLaws::rows_after), using(crate::proofs::Floats::full_bits))]
+fn rows_after(selectivities: &[u32], p: PredicateId, rows: f64) -> f64
+    ensures { result ≡ rows_after selectivities.now p.0 rows }
 {
     if p.0 == NONE {
         return rows;
     }
-    rows * (selectivity_of(selectivity, p) as f64 / 65536.0)
+    rows * (selectivity_of(selectivities, p) as f64 / 65536.0)
 }
 
 // With one connecting edge more: number i, with the predicate p.
-fn with_edge(selectivity: &[u32], i: u32, p: PredicateId, c: Connection) -> Connection
-    ensures { connection_of result ≡ with_edge selectivity.now i p.0 (connection_of c) }
+#[tactic(auto, unfolding(definition::specs::EdgeWalkLaws::with_edge))]
+fn with_edge(selectivities: &[u32], i: u32, p: PredicateId, c: Connection) -> Connection
+    ensures value { IfSome c.lead (λ k. k < 4294967295) → connection_of result ≡ with_edge selectivities.now i p.0 (connection_of c) }
+    ensures lead { result.lead ≡ option_or c.lead (Some i) }
 {
-    let lead = if c.lead == NONE { i } else { c.lead };
-    let filters = if c.filters { true } else { p.0 != NONE };
     Connection {
-        lead: lead,
-        filters: filters,
-        rows: rows_after(selectivity, p, c.rows),
+        lead: c.lead.or(Some(i)),
+        filters: c.filters || p.0 != NONE,
+        rows: rows_after(selectivities, p, c.rows),
     }
 }
 
-// What the candidate of a and b takes from the first n edges, in one walk.
-pub fn connect(
-    left: &[u64],
-    right: &[u64],
-    predicate: &[u32],
-    selectivity: &[u32],
-    n: u32,
-    a: u64,
-    b: u64,
-    product: f64,
-) -> Connection
-    requires { Held n left.now right.now predicate.now }
-    ensures { Connected n left.now right.now predicate.now selectivity.now a b product result }
+// The predicate of edge i. 0 past the end.
+// kept: the definition reads 0 there.
+fn predicate_of(predicates: &[u32], i: usize) -> PredicateId
+    ensures { result.0 ≡ get_or predicates.now i 0 }
+{
+    PredicateId(predicates.get(i).copied().unwrap_or(0))
+}
+
+// What the candidate of a and b takes from the edges, in one walk.
+#[tactic(auto, using(definition::proofs::EdgeWalkLaws::from_start, definition::proofs::EdgeWalkLaws::from_end))]
+pub fn connect(edges: &Edges<'_>, selectivities: &[u32], a: u64, b: u64, product: f64) -> Connection
+    ensures value { Connected edges.now selectivities.now a b product result }
+    ensures lead { IfSome result.lead (λ i. i < length edges.now.left.now) }
 {
     let mut c = Connection {
-        lead: NONE,
+        lead: None,
         filters: false,
         rows: product,
     };
-    let mut i: u32 = 0;
-    while i < n {
-        let k = i as usize;
-        if connects(left[k], right[k], a, b) {
-            c = with_edge(selectivity, i, PredicateId(predicate[k]), c);
+    // kept: by its number, since that is the lead, and says where the edge's predicate stands
+    for i in 0..edges.left.len() {
+        if connects(edges.left[i], edges.right[i], a, b) {
+            c = with_edge(selectivities, i as u32, predicate_of(edges.predicate, i), c);
         }
-        i += 1;
     }
     c
 }

@@ -1,6 +1,6 @@
 -- Laws of `enumerate_cmp_rec` over the lent lists: a stopped store is changed by nothing, and each way through a function of the crate.
 -- Assumes nothing.
-use Rattle.std.specs.Prelude.{◌≡◌, refl, Bool, ◌&&◌, ℕ, zero, suc, ◌-◌, take}
+use Rattle.std.specs.Prelude.{◌≡◌, refl, Bool, ◌&&◌, ℕ, zero, suc, ◌-◌, take, is_some}
 use Rattle.std.proofs.Common.{sym, ◌∙◌, arith}
 use Rattle.std.proofs.Math.Path.{ap}
 use Rattle.std.proofs.Math.Bool.{true, false}
@@ -17,8 +17,8 @@ use Rattle.candidate.specs.Laws.{due_stopped, attempt_skip}
 use Rattle.enumerate_cmp.specs.Walks.{store_cmp_rec, visit_try, visit_tries, visit_cmp}
 use Rattle.stepping.proofs.Stepping.{Frozen, each_frozen}
 
-abbrev pub stop_of : Store → ℕ
-stop_of st = st.at.stop
+abbrev pub stop_of : Store → Bool
+stop_of st = is_some st.at.stop
 
 pub elim_same : {A : Type 0} (b : Bool) {x y : A} → x ≡ y → elim b [ true ↦ x | false ↦ y ] ≡ y
 elim_same true e = e
@@ -45,7 +45,8 @@ cmp_frozen g limit (suc d) s1 s2 x st h =
     ap (each (visit_cmp g limit d s1 s2 y) (non_empty_subsets m))
     (each_frozen stop_of (visit_try g limit s1 s2) (visit_try_frozen g limit s1 s2) (non_empty_subsets m) st h)
     ∙ each_frozen stop_of (visit_cmp g limit d s1 s2 y)
-    (λ t u k. ap (store_cmp_rec g limit d s1 (bit_or s2 t) y) (visit_frozen limit u k) ∙ cmp_frozen g limit d s1 (bit_or s2 t) y u k) (non_empty_subsets m) st h
+    (λ t u k. ap (store_cmp_rec g limit d s1 (bit_or s2 t) y) (visit_frozen limit u k) ∙ cmp_frozen g limit d s1 (bit_or s2 t) y u k)
+    (non_empty_subsets m) st h
 
 pub visit_cmp_frozen : (g : Given) (limit d s1 s2 y t : ℕ) → Frozen stop_of (visit_cmp g limit d s1 s2 y t)
 visit_cmp_frozen g limit d s1 s2 y t u k =

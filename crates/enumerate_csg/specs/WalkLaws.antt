@@ -33,7 +33,8 @@ csg_frozen g limit e (suc d) s1 x st h =
     ap (each (visit_csg g limit e d s1 y) (non_empty_subsets m))
     (each_frozen stop_of (visit_emit g limit e s1) (visit_emit_frozen g limit e s1) (non_empty_subsets m) st h)
     ∙ each_frozen stop_of (visit_csg g limit e d s1 y)
-    (λ t u k. ap (store_csg_rec g limit e d (bit_or s1 t) y) (visit_frozen limit u k) ∙ csg_frozen g limit e d (bit_or s1 t) y u k) (non_empty_subsets m) st h
+    (λ t u k. ap (store_csg_rec g limit e d (bit_or s1 t) y) (visit_frozen limit u k) ∙ csg_frozen g limit e d (bit_or s1 t) y u k)
+    (non_empty_subsets m) st h
 
 pub visit_csg_frozen : (g : Given) (limit e d s1 y t : ℕ) → Frozen stop_of (visit_csg g limit e d s1 y t)
 visit_csg_frozen g limit e d s1 y t u k =

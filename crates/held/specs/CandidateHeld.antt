@@ -1,5 +1,7 @@
 -- emit_csg_cmp on the lent lists is emit_csg_cmp of the definition, written into them. Assumes nothing.
 use Rattle.std.specs.Prelude.{◌≡◌, Bool, true, false, ◌||◌, ℕ, zero, suc, ◌<◌, ◌≤◌, length, get_or, set, drop, ltb, eqb, Float}
+use Rattle.std.specs.Prelude as prelude
+use Rattle.std.specs.Prelude.{None, Some}
 use Rattle.std.proofs.Math.Path.{refl, sym, ap, ap₂}
 use Rattle.std.proofs.Common.{◌∙◌, subst, arith, add-one, drop-cons}
 use mathlib.Core.List.{List, [], ◌∷◌, ◌++◌, map, map-append}
@@ -16,21 +18,22 @@ use Rattle.definition.specs.Cost.{Estimate, product, candidate_from, cheaper}
 use Rattle.definition.specs.Connection.{Connection, connection_over, connection}
 use Rattle.definition.proofs.EdgeViewLaws.{length-edges, edges_get}
 use Rattle.definition.proofs.EdgeWalkLaws.{lead_is_edge}
-use Rattle.definition.specs.Search.{Plan, Entry, Leaf, Input, State, absent, plan_at, find, replace, kept, stopped, candidate_kind, candidate, memo_after, added, stored, joined, attempt}
+use Rattle.definition.specs.Search.{Plan, Entry, Leaf, Input, State, absent, plan_at, find, replace, kept, stopped}
+use Rattle.definition.specs.Search.{candidate_kind, candidate, memo_after, added, stored, joined, attempt}
 use Rattle.store.specs.declared.DPhyp.{DPhyp}
-use Rattle.store.specs.declared.Found.{Found}
-use Rattle.store.specs.declared.Found.TheVariants.{At, Nothing}
-use Rattle.store.specs.declared.Kept.TheVariants as kept-variants
-use Rattle.store.specs.Counts.{counts}
+use Rattle.store.specs.declared.Stop as declared
+use Rattle.store.specs.declared.Stop.TheVariants.{PlansFull, MemoFull}
+use Rattle.store.specs.Counts.{counts, stop_with}
 use Rattle.store.specs.Memo.{spot, plan_id}
 use Rattle.store.specs.Estimates as estimates
-use Rattle.candidate.specs.declared.Room.{Room}
-use Rattle.candidate.specs.declared.Room.TheVariants.{Here}
+use Rattle.candidate.specs.declared.Place.{Place}
 use Rattle.candidate.specs.declared.Due.TheVariants.{Stop, Skip}
 use Rattle.candidate.specs.Store as S
 use Rattle.candidate.specs.Store.{Lists, Given, store, edges, spot_of, at, kind_of, lead_kind, place, place_of, plan_for, due_of}
 use Rattle.held.specs.Held.{input_for, holding, Roomy}
-use Rattle.candidate.specs.Laws.{lists_eq, attempt_skip, attempt_stop, attempt_make, due_stopped, due_no_left, due_no_right, due_none, due_full, due_no_place, due_place, place_new, place-full, place-cheaper, place_old}
+use Rattle.candidate.specs.Laws.{lists_eq, attempt_skip, attempt_stop, attempt_make, due_stopped, due_no_left, due_no_right, due_none}
+use Rattle.candidate.specs.Laws.{due_full, due_no_place, due_place, place_new, place-full, place-cheaper, place_old}
+use Rattle.held.specs.StopHeld.{stop_off, stop_on}
 use Rattle.held.specs.MemoHeld.{sets, plans, Seated, seated, unseated, to_kept, spot_held, plan_for_lem}
 
 -- one field's list when a row is put behind the others; d is any element
@@ -54,7 +57,8 @@ unfolding replace
 replace-length [] s n = refl
 replace-length (e ∷ m) s n = go (eqb e.set s) (replace-length m s n)
   where
-    go : (b : Bool) → length (replace m s n) ≡ length m → length {A = Entry} (elim b [ true ↦ record { set = s; plan = n } ∷ m | false ↦ e ∷ replace m s n ]) ≡ suc (length m)
+    go : (b : Bool) → length (replace m s n) ≡ length m
+        → length {A = Entry} (elim b [ true ↦ record { set = s; plan = n } ∷ m | false ↦ e ∷ replace m s n ]) ≡ suc (length m)
     go true r = refl
     go false r = ap suc r
 
@@ -62,7 +66,8 @@ replace-length (e ∷ m) s n = go (eqb e.set s) (replace-length m s n)
 abbrev pub Named : ℕ → List Entry → Type 0
 Named n m = (s k : ℕ) → find m s ≡ some k → k < n
 
-module _ (g : Given) (ls : List Leaf) (limit : ℕ) (h : Lists) (room : Roomy g h) (few : g.n ≤ none32) (a b : ℕ) (st : State) (named : Named (length st.plans) st.memo) where
+module _ (g : Given) (ls : List Leaf) (limit : ℕ) (h : Lists) (room : Roomy g h) (few : g.n ≤ none32) (a b : ℕ) (st : State)
+    (named : Named (length st.plans) st.memo) where
   abbrev I : Input
   I = input_for g ls limit
 
@@ -95,8 +100,11 @@ module _ (g : Given) (ls : List Leaf) (limit : ℕ) (h : Lists) (room : Roomy g 
   skip : Skip ≡ due_of g H P a b → attempt I a b st ≡ st → Goal
   skip d e = sym (attempt_skip g a b H P d) ∙ ap (holding h) (sym e)
 
-  stop : (k : ℕ) → Stop k ≡ due_of g H P a b → attempt I a b st ≡ stopped st k → Goal
-  stop k d e = sym (attempt_stop g a b H P d) ∙ ap (holding h) (sym e)
+  stop : (k : ℕ) (s : declared.Stop) → Some s ≡ stop_with k → Stop s ≡ due_of g H P a b → attempt I a b st ≡ stopped st k → Goal
+  stop k s q d e =
+      sym (attempt_stop g a b H P d)
+      ∙ ap (λ (o : prelude.Option declared.Stop). store H (counts P.plans P.memo P.visits o)) q
+      ∙ ap (holding h) (sym e)
 
   estimate_is : (l : ℕ) → l < n → (plan_at st l).estimate ≡ at H l
   estimate_is l q =
@@ -114,28 +122,32 @@ module _ (g : Given) (ls : List Leaf) (limit : ℕ) (h : Lists) (room : Roomy g 
     abbrev R : Estimate
     R = (plan_at st r).estimate
 
+    off : prelude.is_some P.stop ≡ false
+    off = stop_off st.stop s0
+
     e_l : L ≡ at H l
     e_l = estimate_is l (named a l ea)
 
     e_r : R ≡ at H r
     e_r = estimate_is r (named b r eb)
 
-    el : plan_for H P a ≡ kept-variants.Plan (plan_id l)
+    el : plan_for H P a ≡ Some (plan_id l)
     el = for a ∙ ap to_kept ea
 
-    er : plan_for H P b ≡ kept-variants.Plan (plan_id r)
+    er : plan_for H P b ≡ Some (plan_id r)
     er = for b ∙ ap to_kept eb
 
     is_joined : (cs : List ℕ) → connecting es a b ≡ cs → attempt I a b st ≡ joined I st a b (some l) (some r) cs
     is_joined cs ec = runs s0 ∙ rw (ea, eb, ec)
 
     -- what the listed connecting edges give is what the store's candidate takes
-    over : (cs : List ℕ) → connecting es a b ≡ cs → connection_over es g.selectivity cs (product L R) ≡ connection es g.selectivity a b (product (at H l) (at H r))
+    over : (cs : List ℕ) → connecting es a b ≡ cs
+        → connection_over es g.selectivity cs (product L R) ≡ connection es g.selectivity a b (product (at H l) (at H r))
     over cs ec = ap₂ (λ (z : List ℕ) (x : Float). connection_over es g.selectivity z x) (sym ec) (ap₂ product e_l e_r)
 
     none_goal : connecting es a b ≡ [] → Goal
     unfolding joined
-    none_goal ec = skip (due_none g H P a b s0 el er (over [] ec) refl) (is_joined [] ec)
+    none_goal ec = skip (due_none g H P a b off el er (over [] ec) refl) (is_joined [] ec)
 
     module _ (c : ℕ) (cs : List ℕ) (ec : connecting es a b ≡ c ∷ cs) where
       abbrev e : Connection
@@ -156,7 +168,8 @@ module _ (g : Given) (ls : List Leaf) (limit : ℕ) (h : Lists) (room : Roomy g 
       kind_is : k ≡ kind_of e.filters (lead_kind g.source g.kinds c)
       unfolding candidate_kind kind_of
       kind_is =
-          ap (λ (x : ℕ). kind_of e.filters (get_or g.kinds x 0)) (ap (λ (y : Edge). y.source) (edges_get g.n g.left g.right g.predicate g.source [] c no_edge lead_under))
+          ap (λ (x : ℕ). kind_of e.filters (get_or g.kinds x 0))
+          (ap (λ (y : Edge). y.source) (edges_get g.n g.left g.right g.predicate g.source [] c no_edge lead_under))
 
       estimate-from : p.estimate ≡ candidate_from k (at H l) (at H r) e.rows
       unfolding candidate
@@ -167,9 +180,11 @@ module _ (g : Given) (ls : List Leaf) (limit : ℕ) (h : Lists) (room : Roomy g 
       is_stored = is_joined (c ∷ cs) ec
 
       full_goal : g.plan_room ≤ n → Goal
-      full_goal f = stop plans_full (due_full g H P a b s0 el er (over (c ∷ cs) ec) lead_some f) (is_stored ∙ rw (le-ltb (length st.plans) g.plan_room f, stored))
+      full_goal f =
+          stop plans_full PlansFull refl (due_full g H P a b off el er (over (c ∷ cs) ec) lead_some f)
+          (is_stored ∙ rw (le-ltb (length st.plans) g.plan_room f, stored))
 
-      abbrev seat : Room
+      abbrev seat : prelude.Option Place
       seat = place_of H.prows H.pcost H.mplan P.memo g.memo_room P.plans p.estimate (spot_of H P (bit_or a b))
 
       spot_is : spot_of H P (bit_or a b) ≡ spot 0 (sets st.memo) (bit_or a b)
@@ -177,13 +192,13 @@ module _ (g : Given) (ls : List Leaf) (limit : ℕ) (h : Lists) (room : Roomy g 
 
       module _ (roomy : n < g.plan_room) where
         -- the memo's two lists after the candidate: what is left to show
-        made_goal : (i best m : ℕ) → seat ≡ Here (place i best m) → attempt I a b st ≡ added st a b p → m ≡ length (added st a b p).memo
+        made_goal : (i best m : ℕ) → seat ≡ Some (place i best m) → attempt I a b st ≡ added st a b p → m ≡ length (added st a b p).memo
             → set H.mset i (bit_or a b) ≡ column (λ (x : Entry). x.set) (added st a b p).memo h.mset
             → set H.mplan i best ≡ column (λ (x : Entry). x.plan) (added st a b p).memo h.mplan → Goal
         unfolding candidate
         made_goal i best m es' ed em e1 e2 =
             let q = length-append st.plans (p ∷ []) in
-            sym (attempt_make g a b H P (due_place g H P a b s0 el er (over (c ∷ cs) ec) lead_some roomy kind_is estimate-from refl es') refl)
+            sym (attempt_make g a b H P (due_place g H P a b off el er (over (c ∷ cs) ec) lead_some roomy kind_is estimate-from refl es') refl)
             ∙ ap₂ (λ (x : Lists) (y : DPhyp). store x y)
             (lists_eq
             (put (λ (x : Plan). x.set) st.plans p h.pset 0 (omega (arith, room.pset)))
@@ -194,13 +209,13 @@ module _ (g : Given) (ls : List Leaf) (limit : ℕ) (h : Lists) (room : Roomy g 
             (put (λ (x : Plan). x.estimate.rows) st.plans p h.prows estimates.zero (omega (arith, room.prows)))
             (put (λ (x : Plan). x.estimate.cost) st.plans p h.pcost estimates.zero (omega (arith, room.pcost)))
             e1 e2)
-            (ap₂ (λ (x y : ℕ). counts x y st.visits 0) (sym q) em)
+            (ap₂ (λ (x y : ℕ). counts x y st.visits None) (sym q) em)
             ∙ ap (holding h) (sym ed)
 
         is_added : (kept st (bit_or a b) || ltb (length st.memo) g.memo_room) ≡ true → attempt I a b st ≡ added st a b p
         is_added q = is_stored ∙ rw (lt-ltb (length st.plans) g.plan_room roomy, stored, q)
 
-        memo_after_goal : (i best : ℕ) (m : List Entry) → seat ≡ Here (place i best (length m)) → attempt I a b st ≡ added st a b p
+        memo_after_goal : (i best : ℕ) (m : List Entry) → seat ≡ Some (place i best (length m)) → attempt I a b st ≡ added st a b p
             → (added st a b p).memo ≡ m
             → set H.mset i (bit_or a b) ≡ column (λ (x : Entry). x.set) m h.mset → set H.mplan i best ≡ column (λ (x : Entry). x.plan) m h.mplan → Goal
         memo_after_goal i best m es' ed en e1 e2 =
@@ -210,26 +225,26 @@ module _ (g : Given) (ls : List Leaf) (limit : ℕ) (h : Lists) (room : Roomy g 
         abbrev fresh : Entry
         fresh = record { set = bit_or a b; plan = n }
 
-        new_goal : spot 0 (sets st.memo) (bit_or a b) ≡ Nothing → length st.memo < g.memo_room → Goal
+        new_goal : spot 0 (sets st.memo) (bit_or a b) ≡ None → length st.memo < g.memo_room → Goal
         unfolding memo_after
         new_goal q lt =
             let none_kept : find st.memo (bit_or a b) ≡ none = unseated 0 st.memo (bit_or a b) q in
             memo_after_goal (length st.memo) n (st.memo ++ (fresh ∷ []))
             (sym (place_new H.prows H.pcost H.mplan (length st.memo) g.memo_room n p.estimate (spot_is ∙ q) lt)
-            ∙ ap (λ (z : ℕ). Here (place (length st.memo) n z)) (sym (length-append st.memo (fresh ∷ []))))
+            ∙ ap (λ (z : ℕ). Some (place (length st.memo) n z)) (sym (length-append st.memo (fresh ∷ []))))
             (is_added (rw (none_kept, lt-ltb (length st.memo) g.memo_room lt)))
             (ap (memo_after st (bit_or a b) n p) none_kept)
             (put (λ (x : Entry). x.set) st.memo fresh h.mset 0 (omega (arith, room.mset)))
             (put (λ (x : Entry). x.plan) st.memo fresh h.mplan 0 (omega (arith, room.mplan)))
 
-        no_room_goal : spot 0 (sets st.memo) (bit_or a b) ≡ Nothing → g.memo_room ≤ length st.memo → Goal
+        no_room_goal : spot 0 (sets st.memo) (bit_or a b) ≡ None → g.memo_room ≤ length st.memo → Goal
         no_room_goal q le =
-            stop memo_full
-            (due_no_place g H P a b s0 el er (over (c ∷ cs) ec) lead_some roomy kind_is estimate-from refl
+            stop memo_full MemoFull refl
+            (due_no_place g H P a b off el er (over (c ∷ cs) ec) lead_some roomy kind_is estimate-from refl
             (sym (place-full H.prows H.pcost H.mplan (length st.memo) g.memo_room n p.estimate (spot_is ∙ q) le)))
             (is_stored ∙ rw (lt-ltb (length st.plans) g.plan_room roomy, stored, unseated 0 st.memo (bit_or a b) q, le-ltb (length st.memo) g.memo_room le))
 
-        module _ (i : ℕ) (q : spot 0 (sets st.memo) (bit_or a b) ≡ At i) (w : Seated st.memo (bit_or a b) i) where
+        module _ (i : ℕ) (q : spot 0 (sets st.memo) (bit_or a b) ≡ Some i) (w : Seated st.memo (bit_or a b) i) where
           abbrev old : ℕ
           old = get_or (plans st.memo) i 0
 
@@ -258,8 +273,9 @@ module _ (g : Given) (ls : List Leaf) (limit : ℕ) (h : Lists) (room : Roomy g 
           cheaper_goal : cheaper p.estimate (plan_at st old).estimate ≡ true → Goal
           cheaper_goal t =
               memo_after_goal i n (replace st.memo (bit_or a b) n)
-              (sym (place-cheaper H.prows H.pcost H.mplan (length st.memo) g.memo_room n p.estimate (spot_is ∙ q) old_is (ap (cheaper p.estimate) (sym before_is) ∙ t))
-              ∙ ap (λ (z : ℕ). Here (place i n z)) (sym (replace-length st.memo (bit_or a b) n)))
+              (sym (place-cheaper H.prows H.pcost H.mplan (length st.memo) g.memo_room n p.estimate (spot_is ∙ q) old_is
+              (ap (cheaper p.estimate) (sym before_is) ∙ t))
+              ∙ ap (λ (z : ℕ). Some (place i n z)) (sym (replace-length st.memo (bit_or a b) n)))
               (is_added (rw w.found))
               (memo_after_is ∙ rw t)
               (same_set ∙ ap₂ (λ (x : List ℕ) (y : ℕ). x ++ drop y h.mset) (sym (w.same_sets n)) (sym (replace-length st.memo (bit_or a b) n)))
@@ -269,7 +285,8 @@ module _ (g : Given) (ls : List Leaf) (limit : ℕ) (h : Lists) (room : Roomy g 
           old_goal : cheaper p.estimate (plan_at st old).estimate ≡ false → Goal
           old_goal t =
               memo_after_goal i old st.memo
-              (sym (place_old H.prows H.pcost H.mplan (length st.memo) g.memo_room n p.estimate (spot_is ∙ q) old_is (ap (cheaper p.estimate) (sym before_is) ∙ t)))
+              (sym (place_old H.prows H.pcost H.mplan (length st.memo) g.memo_room n p.estimate (spot_is ∙ q) old_is
+              (ap (cheaper p.estimate) (sym before_is) ∙ t)))
               (is_added (rw w.found))
               (memo_after_is ∙ rw t)
               same_set
@@ -279,16 +296,17 @@ module _ (g : Given) (ls : List Leaf) (limit : ℕ) (h : Lists) (room : Roomy g 
       edge_goal : Goal
       edge_goal = go (ltb n g.plan_room) refl (spot 0 (sets st.memo) (bit_or a b)) refl (ltb (length st.memo) g.memo_room) refl
         where
-          go : (x : Bool) → ltb n g.plan_room ≡ x → (f : Found) → spot 0 (sets st.memo) (bit_or a b) ≡ f → (y : Bool) → ltb (length st.memo) g.memo_room ≡ y → Goal
+          go : (x : Bool) → ltb n g.plan_room ≡ x → (f : prelude.Option ℕ) → spot 0 (sets st.memo) (bit_or a b) ≡ f
+              → (y : Bool) → ltb (length st.memo) g.memo_room ≡ y → Goal
           go false d f q y u = full_goal (ltb-false _ _ d)
-          go true d Nothing q true u = new_goal (ltb-true _ _ d) q (ltb-true _ _ u)
-          go true d Nothing q false u = no_room_goal (ltb-true _ _ d) q (ltb-false _ _ u)
-          go true d (At i) q y u =
+          go true d None q true u = new_goal (ltb-true _ _ d) q (ltb-true _ _ u)
+          go true d None q false u = no_room_goal (ltb-true _ _ d) q (ltb-false _ _ u)
+          go true d (Some i) q y u =
               let w = seated 0 st.memo (bit_or a b) i q in
               let z : w.0 ≡ i = omega (arith, w.1) in
               here i q (subst (λ (x : ℕ). Seated st.memo (bit_or a b) x) z w.2) (cheaper p.estimate (plan_at st (get_or (plans st.memo) i 0)).estimate) refl
             where
-              here : (i : ℕ) → spot 0 (sets st.memo) (bit_or a b) ≡ At i → Seated st.memo (bit_or a b) i → (t : Bool)
+              here : (i : ℕ) → spot 0 (sets st.memo) (bit_or a b) ≡ Some i → Seated st.memo (bit_or a b) i → (t : Bool)
                   → cheaper p.estimate (plan_at st (get_or (plans st.memo) i 0)).estimate ≡ t → Goal
               here i q w true t = cheaper_goal (ltb-true _ _ d) i q w t
               here i q w false t = old_goal (ltb-true _ _ d) i q w t
@@ -299,11 +317,12 @@ module _ (g : Given) (ls : List Leaf) (limit : ℕ) (h : Lists) (room : Roomy g 
   attempt_held = go (eqb st.stop 0) refl
     where
       both : st.stop ≡ 0 → (x : Option ℕ) → find st.memo a ≡ x → (y : Option ℕ) → find st.memo b ≡ y → (cs : List ℕ) → connecting es a b ≡ cs → Goal
-      both z none ea y eb cs ec = skip (due_no_left g H P a b z (for a ∙ ap to_kept ea)) (runs z ∙ rw ea)
-      both z (some l) ea none eb cs ec = skip (due_no_right g H P a b z (for a ∙ ap to_kept ea) (for b ∙ ap to_kept eb)) (runs z ∙ rw (ea, eb))
+      both z none ea y eb cs ec = skip (due_no_left g H P a b (stop_off st.stop z) (for a ∙ ap to_kept ea)) (runs z ∙ rw ea)
+      both z (some l) ea none eb cs ec =
+          skip (due_no_right g H P a b (stop_off st.stop z) (for a ∙ ap to_kept ea) (for b ∙ ap to_kept eb)) (runs z ∙ rw (ea, eb))
       both z (some l) ea (some r) eb [] ec = none_goal z l r ea eb ec
       both z (some l) ea (some r) eb (c ∷ cs) ec = edge_goal z l r ea eb c cs ec
 
       go : (x : Bool) → eqb st.stop 0 ≡ x → Goal
-      go false q = skip (due_stopped g H P a b (eqb-false _ _ q)) (frozen (eqb-false _ _ q))
+      go false q = skip (due_stopped g H P a b (stop_on st.stop (eqb-false _ _ q))) (frozen (eqb-false _ _ q))
       go true q = both (eqb-true _ _ q) (find st.memo a) refl (find st.memo b) refl (connecting es a b) refl

@@ -2,7 +2,7 @@
 use Rattle.std.specs.Prelude.{List, ℕ, ◌≤◌, length}
 use Rattle.definition.specs.Lists.{column}
 use Rattle.definition.specs.Search.{Plan, Entry, Leaf, Input, State}
-use Rattle.store.specs.Counts.{counts}
+use Rattle.store.specs.Counts.{counts, stop_with}
 use Rattle.candidate.specs.Store.{Lists, Store, Given, lists, store, edges}
 
 -- what the definition's search is given, with these leaves and this limit
@@ -19,7 +19,7 @@ holding h st =
     (lists (column (λ (p : Plan). p.set) ps h.pset) (column (λ (p : Plan). p.left) ps h.pleft) (column (λ (p : Plan). p.right) ps h.pright)
     (column (λ (p : Plan). p.lead) ps h.plead) (column (λ (p : Plan). p.kind) ps h.pkind) (column (λ (p : Plan). p.estimate.rows) ps h.prows)
     (column (λ (p : Plan). p.estimate.cost) ps h.pcost) (column (λ (e : Entry). e.set) m h.mset) (column (λ (e : Entry). e.plan) m h.mplan))
-    (counts (length ps) (length m) st.visits st.stop)
+    (counts (length ps) (length m) st.visits (stop_with st.stop))
 
 -- no list is shorter than its store's length
 pub record Roomy (g : Given) (h : Lists) : Type 0 where

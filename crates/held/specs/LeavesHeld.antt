@@ -1,5 +1,5 @@
 -- The leaves' plans and memo entries, written one by one, are those that the definition's search begins with. Assumes nothing.
-use Rattle.std.specs.Prelude.{◌≡◌, length, set}
+use Rattle.std.specs.Prelude.{◌≡◌, length, set, None}
 use Rattle.std.proofs.Math.Path.{refl, ap, ap₂}
 use Rattle.std.proofs.Common.{sym, ◌∙◌, arith, length-append}
 use mathlib.Core.List.{List, [], ◌∷◌, ◌++◌, append-nil}
@@ -51,13 +51,15 @@ module _ (g : Given) (h : Lists) (room : Roomy g h) where
       (plan (λ (p : Plan). p.estimate.cost) h.pcost estimates.zero room.pcost) (noted (λ (e : Entry). e.set) h.mset room.mset)
       (noted (λ (e : Entry). e.plan) h.mplan room.mplan)
     where
-      plan : {B : Type 0} (f : Plan → B) (xs : List B) (d : B) → g.plan_room ≤ length xs → set (column f ps xs) k (f (scan k l)) ≡ column f (ps ++ (scan k l ∷ [])) xs
+      plan : {B : Type 0} (f : Plan → B) (xs : List B) (d : B) → g.plan_room ≤ length xs
+          → set (column f ps xs) k (f (scan k l)) ≡ column f (ps ++ (scan k l ∷ [])) xs
       plan {B} f xs d q = ap (λ (n : ℕ). set (column f ps xs) n (f (scan k l))) (sym a) ∙ put f ps (scan k l) xs d (omega arith)
 
       noted : (f : Entry → ℕ) (xs : List ℕ) → g.memo_room ≤ length xs → set (column f m xs) k (f (entry k)) ≡ column f (m ++ (entry k ∷ [])) xs
       noted f xs q = ap (λ (n : ℕ). set (column f m xs) n (f (entry k))) (sym b) ∙ put f m (entry k) xs 0 (omega arith)
 
-  from_held : (ls : List Leaf) (ps : List Plan) (m : List Entry) (k : ℕ) → length ps ≡ k → length m ≡ k → k + length ls ≤ g.plan_room → k + length ls ≤ g.memo_room
+  from_held : (ls : List Leaf) (ps : List Plan) (m : List Entry) (k : ℕ) → length ps ≡ k → length m ≡ k
+      → k + length ls ≤ g.plan_room → k + length ls ≤ g.memo_room
       → leaves_written k ls (with ps m) ≡ with (ps ++ leaf_plans k ls) (m ++ leaf_entries k ls)
   unfolding leaves_written leaf_plans leaf_entries
   from_held [] ps m k a b r s = ap₂ (λ (x : List Plan) (y : List Entry). with x y) (sym (append-nil ps)) (sym (append-nil m))
@@ -65,11 +67,12 @@ module _ (g : Given) (h : Lists) (room : Roomy g h) where
       ap (leaves_written (suc k) ls) (leaf_held ps m k l a b (omega arith) (omega arith))
       ∙ from_held ls (ps ++ (scan k l ∷ [])) (m ++ (entry k ∷ [])) (suc k) (length-append ps (scan k l ∷ []) ∙ add-one (length ps) ∙ ap suc a)
       (length-append m (entry k ∷ []) ∙ add-one (length m) ∙ ap suc b) (omega arith) (omega arith)
-      ∙ ap₂ (λ (x : List Plan) (y : List Entry). with x y) (append_snoc ps (scan k l) (leaf_plans (suc k) ls)) (append_snoc m (entry k) (leaf_entries (suc k) ls))
+      ∙ ap₂ (λ (x : List Plan) (y : List Entry). with x y) (append_snoc ps (scan k l) (leaf_plans (suc k) ls))
+      (append_snoc m (entry k) (leaf_entries (suc k) ls))
 
   pub leaves_held : (ls : List Leaf) (limit : ℕ) → length ls ≤ g.plan_room → length ls ≤ g.memo_room
-      → store (leaves_written 0 ls h) (counts (length ls) (length ls) 0 0) ≡ holding h (start (input_for g ls limit))
+      → store (leaves_written 0 ls h) (counts (length ls) (length ls) 0 None) ≡ holding h (start (input_for g ls limit))
   unfolding start
   leaves_held ls limit r s =
       ap₂ (λ (x : Lists) (p : DPhyp). store x p) (from_held ls [] [] 0 refl refl (omega arith) (omega arith))
-      (ap₂ (λ (x y : ℕ). counts x y 0 0) (sym (leaf_plans-length 0 ls)) (sym (leaf_entries-length 0 ls)))
+      (ap₂ (λ (x y : ℕ). counts x y 0 None) (sym (leaf_plans-length 0 ls)) (sym (leaf_entries-length 0 ls)))

@@ -1,4 +1,5 @@
 pub mod Held
+pub mod StopHeld
 pub mod MemoHeld
 pub mod CandidateHeld
 pub mod SearchHeld

@@ -1,5 +1,7 @@
 -- The search on the lent lists is the search of the definition, written into them. Assumes nothing.
-use Rattle.std.specs.Prelude.{◌≡◌, List, [], ◌∷◌, ◌++◌, Bool, true, false, ◌||◌, ℕ, suc, ◌<◌, ◌≤◌, length, drop, ltb, eqb}
+use Rattle.std.specs.Prelude.{◌≡◌, List, [], ◌∷◌, ◌++◌, Bool, true, false, ◌||◌, ℕ, suc, ◌+◌, ◌<◌, ◌≤◌, length, drop, ltb, eqb}
+use Rattle.std.specs.Prelude as prelude
+use Rattle.std.specs.Prelude.{None, Some}
 use Rattle.std.proofs.Math.Path.{refl}
 use Rattle.std.proofs.Common.{sym, ap, ◌∙◌, arith, add-one, length-append, eqb-true, ltb-true, ltb-false}
 use Rattle.std.proofs.Math.Option.{Option, none, some}
@@ -9,18 +11,18 @@ use Rattle.nodeset.specs.SubsetLaws.{All}
 use Rattle.definition.specs.Answers.{visits_spent}
 use Rattle.definition.specs.Hypergraph.{none32, Sided, connecting}
 use Rattle.definition.specs.Cost.{cheaper}
-use Rattle.definition.specs.Search.{Plan, Leaf, Input, State, plan_at, find, is_some, kept, stopped, visit, candidate, memo_after, added, joined, attempt, start, search}
+use Rattle.definition.specs.Search.{Plan, Leaf, Input, State, plan_at, find, is_some, kept, stopped, visit, candidate, memo_after, added}
+use Rattle.definition.specs.Search.{joined, attempt, start, search}
 use Rattle.definition.specs.Walk.{solve}
 use Rattle.definition.proofs.WalkLaws.{solve_rel}
 use Rattle.definition.proofs.MemoLaws.{some_inj, winner, memo_after_same, memo_after_other, leaf_plans-length, leaf_found}
-use Rattle.store.specs.declared.Found.{Found}
-use Rattle.store.specs.declared.Found.TheVariants.{At, Nothing}
 use Rattle.store.specs.Counts.{counts}
 use Rattle.store.specs.Memo.{spot, is_at}
 use Rattle.store.specs.Laws.{visit-stopped, visit_under, visit_over}
 use Rattle.candidate.specs.Store as S
 use Rattle.candidate.specs.Store.{Lists, Store, Given, store, edges}
 use Rattle.held.specs.Held.{input_for, holding, Roomy}
+use Rattle.held.specs.StopHeld.{stop_none, stop_off, stop_on}
 use Rattle.held.specs.MemoHeld.{sets, seated, unseated, spot_held}
 use Rattle.held.specs.CandidateHeld.{Named, attempt_held}
 
@@ -82,9 +84,9 @@ ok_attempt i a b st ok =
 spot_found : (st : State) (s : ℕ) → is_at (spot 0 (sets st.memo) s) ≡ is_some (find st.memo s)
 spot_found st s = go (spot 0 (sets st.memo) s) refl
   where
-    go : (f : Found) → spot 0 (sets st.memo) s ≡ f → is_at f ≡ is_some (find st.memo s)
-    go Nothing q = sym (ap is_some (unseated 0 st.memo s q))
-    go (At k) q = sym (ap is_some (seated 0 st.memo s k q).2.found)
+    go : (f : prelude.Option ℕ) → spot 0 (sets st.memo) s ≡ f → is_at f ≡ is_some (find st.memo s)
+    go None q = sym (ap is_some (unseated 0 st.memo s q))
+    go (Some k) q = sym (ap is_some (seated 0 st.memo s k q).2.found)
 
 module _ (g : Given) (ls : List Leaf) (limit : ℕ) (h : Lists) (room : Roomy g h) (few : g.n ≤ none32) where
   abbrev I : Input
@@ -105,13 +107,19 @@ module _ (g : Given) (ls : List Leaf) (limit : ℕ) (h : Lists) (room : Roomy g 
       on x e q ok = rw e (ap (S.visit limit) r.0 ∙ q, ok)
 
       go : (x : Bool) → eqb st.stop 0 ≡ x → (y : Bool) → ltb st.visits limit ≡ y → Holds (S.visit limit u) (visit I st)
-      go false d y k = on st (rw (d, visit)) (ap (store (holding h st).held) (sym (visit-stopped limit (holding h st).at (eqb-false _ _ d)))) r.1
+      go false d y k =
+          on st (rw (d, visit))
+          (ap (store (holding h st).held) (sym (visit-stopped limit (holding h st).at (stop_on st.stop (eqb-false _ _ d))))) r.1
       go true d true k =
           on (record { tried = st.tried; plans = st.plans; memo = st.memo; visits = suc st.visits; stop = 0 }) (rw (d, visit, k))
-          (ap (store (holding h st).held) (sym (visit_under limit (holding h st).at (eqb-true _ _ d) (ltb-true _ _ k)) ∙ ap (λ (v : ℕ). counts (length st.plans) (length st.memo) v 0) (add-one st.visits))) r.1
+          (ap (store (holding h st).held)
+          (sym (visit_under limit (holding h st).at (stop_off st.stop (eqb-true _ _ d)) (ltb-true _ _ k))
+          ∙ ap (counts (length st.plans) (length st.memo) (st.visits + 1)) (stop_none st.stop (eqb-true _ _ d))
+          ∙ ap (λ (v : ℕ). counts (length st.plans) (length st.memo) v None) (add-one st.visits)))
+          r.1
       go true d false k =
           on (stopped st visits_spent) (rw (d, visit, k))
-          (ap (store (holding h st).held) (sym (visit_over limit (holding h st).at (eqb-true _ _ d) (ltb-false _ _ k)))) r.1
+          (ap (store (holding h st).held) (sym (visit_over limit (holding h st).at (stop_off st.stop (eqb-true _ _ d)) (ltb-false _ _ k)))) r.1
 
   holds-attempt : (a b : ℕ) (u : Store) (st : State) → Holds u st → Holds (S.attempt g a b u) (attempt I a b st)
   holds-attempt a b u st r = (ap (S.attempt g a b) r.0 ∙ attempt_held g ls limit h room few a b st r.1, ok_attempt I a b st r.1)

@@ -1,7 +1,8 @@
 -- How much a builder holds, and the edge lists as a whole. Assumes nothing.
-use Rattle.std.specs.Prelude.{◌≡◌, refl, ℕ, zero, suc, ◌≤◌, length}
+use Rattle.std.specs.Prelude.{◌≡◌, refl, ℕ, ◌≤◌, length}
 use Rattle.std.proofs.Math.Path.{sym, ap, ap₂}
 use Rattle.std.proofs.Common.{◌∙◌, take-append-drop}
+use Rattle.std.proofs.lemmas.List.{length-reverse}
 use mathlib.Core.List.{List, ◌++◌}
 use Rattle.std.proofs.Math.ListN.{get_or, drop}
 use Rattle.definition.specs.Lists.{column}
@@ -10,10 +11,8 @@ use Rattle.definition.specs.Hypergraph.{Edge}
 use Rattle.definition.specs.EdgeView.{edge_at, edges_of}
 use Rattle.builder.specs.Builds.{EdgeLists, edges_in, edges_held, pile_of, Behind, Added, Longer}
 
-pub pile_length : (h : ℕ) (p : List ℕ) → length (pile_of h p) ≡ h
-unfolding pile_of
-pile_length zero p = refl
-pile_length (suc h) p = ap suc (pile_length h p)
+pub pile_length : (p : List ℕ) → length (pile_of p) ≡ length p
+pile_length p = length-reverse p
 
 pub edges_held_lem : (n : ℕ) (h : EdgeLists) → length (edges_in n h) ≡ n
 unfolding edges_of
@@ -24,7 +23,8 @@ module _ (n : ℕ) (g : EdgeLists) where
   abbrev at : ℕ → Edge
   at i = edge_at g.left g.right g.predicate g.source g.kind i
 
-  one_held : (f : Edge → ℕ) (before after : List ℕ) → ((i : ℕ) → f (at i) ≡ get_or after i 0) → n ≤ length after → Behind n before after → after ≡ column f (edges_in n g) before
+  one_held : (f : Edge → ℕ) (before after : List ℕ) → ((i : ℕ) → f (at i) ≡ get_or after i 0) → n ≤ length after
+      → Behind n before after → after ≡ column f (edges_in n g) before
   unfolding edges_of
   one_held f before after same h b =
       sym (take-append-drop n after)
@@ -39,5 +39,6 @@ lists_held m n h g a l =
     (one_held n g (λ e. e.type) _ _ (λ i. refl) l.kind a.kind)
   where
     lists_eq : {a b c d e f g h i j : List ℕ} → a ≡ f → b ≡ g → c ≡ h → d ≡ i → e ≡ j
-        → ◌≡◌ {A = EdgeLists} (record { left = a; right = b; predicate = c; source = d; kind = e }) (record { left = f; right = g; predicate = h; source = i; kind = j })
+        → ◌≡◌ {A = EdgeLists} (record { left = a; right = b; predicate = c; source = d; kind = e })
+        (record { left = f; right = g; predicate = h; source = i; kind = j })
     lists_eq p q r s t = cc

@@ -3,25 +3,32 @@ use Rattle.std.specs.Prelude.{◌≡◌, Bool, true, false, ℕ, ◌+◌, ◌-�
 use Rattle.std.proofs.Math.Path.{refl, sym, ap, ap₂}
 use Rattle.std.proofs.Common.{◌∙◌, arith, add-one, length-append, drop_of_length-le, eq-eqb, ne_eqb, eqb-true}
 use mathlib.Core.List.{List, [], ◌∷◌}
-use Rattle.std.proofs.Math.ListN.{length, get_or}
+use Rattle.std.proofs.Math.ListN.{length, get_or, take}
 use Rattle.std.proofs.lemmas.Bool.{eqb-false}
 use Rattle.definition.specs.Lists.{concat_map}
-use Rattle.definition.proofs.ListLaws.{length-tabulate}
-use Rattle.definition.specs.Question.{Range, part, Question, OpenItem, OpenQuestion, cross_product, leaf, item, open_item, open_question, leaf_count, ends_with_one}
+use Rattle.std.proofs.lemmas.List.{length-map}
+use Rattle.definition.specs.Question.{Range, part, Question, OpenItem, OpenQuestion, cross_product, leaf}
+use Rattle.definition.specs.Question.{item, open_item, open_question, leaf_count, ends_with_one}
 use Rattle.definition.proofs.QuestionLaws.{open_item_lem, counts-leaf, counts-join, finds_two, walk_items, length_open_items, length_open_predicates}
 use Rattle.definition.specs.Sheet.{question_of}
 use Rattle.definition.specs.Accepted.{Sound}
 use Rattle.definition.specs.Tables.{type_of}
-use Rattle.definition.specs.Edges.{Build, Sides, JoinRecord, sides_for, join_item, cross_item, leaf_item, join, on_pile, build_item, build_from, empty_build, build_hypergraph, edge_count}
+use Rattle.definition.specs.Edges.{Build, Sides, JoinRecord, sides_for, join_item, cross_item, leaf_item, join, on_pile}
+use Rattle.definition.specs.Edges.{build_item, build_from, empty_build, build_hypergraph, edge_count}
 use Rattle.definition.specs.Hypergraph.{Edge}
 use Rattle.definition.proofs.EdgeCount.{JoinFits, join-height, item-height, item_count_lem}
 use Rattle.definition.proofs.InputLaws.{sound_edges-counted}
 use Rattle.ses.specs.View.{columns_at, Fit, Named}
-use Rattle.tes.specs.Views.{join_at, joins_of}
-use Rattle.builder.specs.Builds.{section, LeavesFit, Places, State, state, counted, pile_of, build_of, edges_in, edges_held, EdgeLists, with_leaf, Longer, Added, RoomFor}
+use Rattle.sheet.specs.declared.Range as declared
+use Rattle.sheet.specs.declared.Sections.{Sections}
+use Rattle.sheet.specs.Views.{Placed}
+use Rattle.definition.proofs.SheetLaws.{length_items}
+use Rattle.tes.specs.Views.{join_of}
+use Rattle.builder.specs.Builds.{LeavesFit, empty, pile_of, build_of, edges_in, edges_held, EdgeLists, with_leaf, Longer, Added, RoomFor}
+use Rattle.builder.specs.declared.HypergraphBuilder.{HypergraphBuilder}
 use Rattle.builder.specs.Laws.{pile_two}
 use Rattle.joins.specs.Joins.{edges_by, Ready}
-use Rattle.joins.specs.Laws.{fits_same, longer_less, longer_added}
+use Rattle.joins.specs.Laws.{longer_less, longer_added}
 use Rattle.joins.specs.JoinLaws.{by_rest}
 use Rattle.hypergraph.specs.HeldLaws.{pile_length, edges_held_lem, lists_held}
 use Rattle.hypergraph.specs.Walk.{item_edges, Along}
@@ -39,7 +46,8 @@ count_cons i is = go (eqb i.kind leaf) (eqb i.kind cross_product)
     go false false = refl
 
 module _ (q : Question) (k : ℕ) where
-  pub edges_step : k < length q.items → edge_count (drop k (open_question q).items) ≡ item_edges (open_item (item q k)) + edge_count (drop (k + 1) (open_question q).items)
+  pub edges_step : k < length q.items
+      → edge_count (drop k (open_question q).items) ≡ item_edges (open_item (item q k)) + edge_count (drop (k + 1) (open_question q).items)
   edges_step h = ap edge_count (open_item_lem q k h) ∙ count_cons (open_item (item q k)) (drop (k + 1) (open_question q).items)
 
   pub edges_done : length q.items ≤ k → edge_count (drop k (open_question q).items) ≡ 0
@@ -56,12 +64,15 @@ module _ (q : OpenQuestion) (k : ℕ) (i : OpenItem) (b c : Build) where
   leaf_built n p e f g h =
       rw (eq-eqb i.kind leaf e, build_item) (h ∙ ap₂ (λ (m : ℕ) (x : Range). with_leaf m (part x q.columns) b) (sym f) g)
 
-  pub join_built : (n : ℕ) (p : List ℕ) → 2 ≤ n → b.pile ≡ pile_of n p → (i.kind ≡ leaf → ⊥)
+  pub join_built : (p : List ℕ) → let n = length p in 2 ≤ n → b.pile ≡ pile_of p → (i.kind ≡ leaf → ⊥)
       → c ≡ join q k i (get_or p (n - 2) 0) (get_or p (n - 1) 0) (drop 2 b.pile) b → c ≡ build_item join q k i b
   unfolding build_item
-  join_built n p two pile e h =
-      let w : b.pile ≡ get_or p (n - 1) 0 ∷ (get_or p (n - 2) 0 ∷ pile_of (n - 2) p) = pile ∙ pile_two n p two in
-      h ∙ sym (rw (ne_eqb i.kind leaf e, build_item) (ap (λ (x : List ℕ). on_pile join q k i x b) w ∙ ap (λ (x : List ℕ). join q k i (get_or p (n - 2) 0) (get_or p (n - 1) 0) (drop 2 x) b) (sym w)))
+  join_built p two pile e h =
+      let n = length p in
+      let w : b.pile ≡ get_or p (n - 1) 0 ∷ (get_or p (n - 2) 0 ∷ pile_of (take (n - 2) p)) = pile ∙ pile_two p two in
+      h ∙ sym (rw (ne_eqb i.kind leaf e, build_item) (
+      ap (λ (x : List ℕ). on_pile join q k i x b) w
+      ∙ ap (λ (x : List ℕ). join q k i (get_or p (n - 2) 0) (get_or p (n - 1) 0) (drop 2 x) b) (sym w)))
 
 -- ---- the counts of a build
 
@@ -86,23 +97,26 @@ join_tally q k i l r rest b = go (eqb i.kind cross_product)
         let w = by_rest q k i.kind t i.range l r s b in
         (w.leaves, length-append (edges_by q k i.kind t i.range l r s b).joins _ ∙ ap (λ (js : List JoinRecord). length js + 1) w.joins)
 
-module _ (sheet : List ℕ) (b : State) where
-  pub leaves_held : length (build_of sheet b).leaves ≡ b.counts.leaves
-  leaves_held = length-tabulate b.counts.leaves (λ k. columns_at sheet (get_or (section 64 b.numbers) k 0) (get_or (section 128 b.numbers) k 0))
+module _ (sheet : List ℕ) (b : HypergraphBuilder) (e : EdgeLists) where
+  pub leaves_held : length (build_of sheet b e).leaves ≡ length b.leaves.items
+  leaves_held = length-map b.leaves.items (λ (r : declared.Range). columns_at sheet r.first r.count)
 
-  joins_held : length (build_of sheet b).joins ≡ b.counts.joins
-  unfolding joins_of
-  joins_held = length-tabulate b.counts.joins (join_at (section 0 b.numbers) (section 64 b.sets) (section 128 b.sets) (section 192 b.sets) (section 256 b.sets))
+  joins_held : length (build_of sheet b e).joins ≡ length b.joins.items
+  joins_held = length-map b.joins.items join_of
 
-  height_held : length (build_of sheet b).pile ≡ b.counts.height
-  height_held = pile_length b.counts.height b.sets
+  height_held : length (build_of sheet b e).pile ≡ length b.pile.items
+  height_held = pile_length b.pile.items
 
 -- ---- along the walk
 
 abbrev items_of : List ℕ → List OpenItem
 items_of sheet = (open_question (question_of sheet)).items
 
-module _ (sheet : List ℕ) (k : ℕ) (b : State) (w : Along sheet k b) (h : k < length (question_of sheet).items) where
+-- a number below the items' count is an item's
+pub item_within : (sheet : List ℕ) (s : Sections) (k : ℕ) → Placed sheet s → k < s.items.count → k < length (question_of sheet).items
+item_within sheet s k p h = omega (arith, p.items_many, length_items sheet)
+
+module _ (sheet : List ℕ) (k : ℕ) (b : HypergraphBuilder) (l : EdgeLists) (w : Along sheet k b l) (h : k < length (question_of sheet).items) where
   abbrev q : Question
   q = question_of sheet
 
@@ -112,23 +126,23 @@ module _ (sheet : List ℕ) (k : ℕ) (b : State) (w : Along sheet k b) (h : k <
   abbrev is : List OpenItem
   is = drop (k + 1) (items_of sheet)
 
-  on : ends_with_one (drop k (items_of sheet)) b.counts.height ≡ true
+  on : ends_with_one (drop k (items_of sheet)) (length b.pile.items) ≡ true
   on = w.walk (omega (arith, length_open_items q))
 
-  pub room_leaf : i.kind ≡ leaf → (b.counts.leaves < 64) × (b.counts.height < 64) × Places b.numbers b.sets
-  room_leaf e = let c = counts-leaf q k h e in (omega (arith, w.leaves), omega (arith, w.leaves, w.joins), w.places)
+  pub room_leaf : i.kind ≡ leaf → (length b.leaves.items < 64) × (length b.pile.items < 64)
+  room_leaf e = let c = counts-leaf q k h e in (omega (arith, w.leaves), omega (arith, w.leaves, w.joins))
 
-  pub along_ready : Ready sheet b.counts b.numbers b.sets
-  along_ready = record { leaves = w.fits; joins = omega (arith, w.joins, w.fits.few); places = w.places }
+  pub along_ready : Ready sheet b
+  along_ready = record { leaves = w.fits }
 
   module _ (e : i.kind ≡ leaf → ⊥) where
-    pub two : 2 ≤ b.counts.height
-    two = finds_two q k h b.counts.height e on
+    pub two : 2 ≤ length b.pile.items
+    two = finds_two q k h (length b.pile.items) e on
 
-    pub room_join : RoomFor b.counts
-    room_join = record { two = two; tall = omega (arith, w.joins, w.fits.few); joins = omega (arith, two, w.joins, w.fits.few) }
+    pub room_join : RoomFor b
+    room_join = record { two = two; joins = omega (arith, two, w.joins, w.fits.few) }
 
-    pub room_edges : Longer (b.counts.edges + item_edges i) b.edges
+    pub room_edges : Longer (b.edges + item_edges i) l
     room_edges = longer_less (omega (arith, edges_step q k h)) w.edges
 
     pub named : Sound q → (p : Range) → p ≡ (item q k).range → Named sheet p.first p.count
@@ -138,37 +152,42 @@ module _ (sheet : List ℕ) (k : ℕ) (b : State) (w : Along sheet k b) (h : k <
   leaf-fits s p f e = rw f (s.leaf_ranges k h e)
 
   -- after the item
-  module _ (c : State) (built : build_of sheet c ≡ build_item join (open_question q) k i (build_of sheet b)) (s : Sound q) where
+  module _ (c : HypergraphBuilder) (m : EdgeLists) (built : build_of sheet c m ≡ build_item join (open_question q) k i (build_of sheet b l)) (s : Sound q) where
     abbrev next : Build
-    next = build_item join (open_question q) k i (build_of sheet b)
+    next = build_item join (open_question q) k i (build_of sheet b l)
 
     here : drop k (items_of sheet) ≡ i ∷ is
     here = open_item_lem q k h
 
-    height-next : length next.pile ≡ c.counts.height
-    height-next = sym (ap (λ (x : Build). length x.pile) built) ∙ height_held sheet c
+    height-next : length next.pile ≡ length c.pile.items
+    height-next = sym (ap (λ (x : Build). length x.pile) built) ∙ height_held sheet c m
 
-    joins_next : length next.joins ≡ c.counts.joins
-    joins_next = sym (ap (λ (x : Build). length x.joins) built) ∙ joins_held sheet c
+    joins_next : length next.joins ≡ length c.joins.items
+    joins_next = sym (ap (λ (x : Build). length x.joins) built) ∙ joins_held sheet c m
 
-    leaves-next : length next.leaves ≡ c.counts.leaves
-    leaves-next = sym (ap (λ (x : Build). length x.leaves) built) ∙ leaves_held sheet c
+    leaves-next : length next.leaves ≡ length c.leaves.items
+    leaves-next = sym (ap (λ (x : Build). length x.leaves) built) ∙ leaves_held sheet c m
 
-    edges-next : length next.edges ≡ c.counts.edges
-    edges-next = sym (ap (λ (x : Build). length x.edges) built) ∙ edges_held_lem c.counts.edges c.edges
+    edges-next : length next.edges ≡ c.edges
+    edges-next = sym (ap (λ (x : Build). length x.edges) built) ∙ edges_held_lem c.edges m
 
-    walked : ends_with_one (i ∷ is) (length (build_of sheet b).pile) ≡ true
-    walked = rw (sym here, height_held sheet b) on
+    walked : ends_with_one (i ∷ is) (length (build_of sheet b l).pile) ≡ true
+    walked = rw (sym here, height_held sheet b l) on
 
     abbrev d : Build
-    d = build_of sheet b
+    d = build_of sheet b l
 
-    tally : (length next.leaves + leaf_count is ≡ b.counts.leaves + leaf_count (drop k (items_of sheet))) × (length next.joins + length next.pile ≡ length next.leaves)
+    abbrev Tally : Type 0
+    Tally =
+        (length next.leaves + leaf_count is ≡ length b.leaves.items + leaf_count (drop k (items_of sheet)))
+        × (length next.joins + length next.pile ≡ length next.leaves)
+
+    tally : Tally
     unfolding build_item leaf_item leaf_count
     tally = go (eqb i.kind leaf) refl
       where
         onto : (p : List ℕ) → 2 ≤ length p → length d.joins + length p ≡ length d.leaves
-            → ((on_pile join (open_question q) k i p d).leaves ≡ d.leaves) × (length (on_pile join (open_question q) k i p d).joins + length (on_pile join (open_question q) k i p d).pile ≡ length d.leaves)
+            → let x = on_pile join (open_question q) k i p d in (x.leaves ≡ d.leaves) × (length x.joins + length x.pile ≡ length d.leaves)
         onto [] z y = absurd (omega arith)
         onto (r ∷ []) z y = absurd (omega arith)
         onto (r ∷ (l ∷ rest)) z y =
@@ -176,63 +195,66 @@ module _ (sheet : List ℕ) (k : ℕ) (b : State) (w : Along sheet k b) (h : k <
             (t.0, omega (arith, t.1, join-height (open_question q) k i l r rest d, y))
 
         sum : length d.joins + length d.pile ≡ length d.leaves
-        sum = omega (arith, joins_held sheet b, height_held sheet b, leaves_held sheet b, w.joins)
+        sum = omega (arith, joins_held sheet b l, height_held sheet b l, leaves_held sheet b l, w.joins)
 
-        go : (x : Bool) → eqb i.kind leaf ≡ x
-            → (length next.leaves + leaf_count is ≡ b.counts.leaves + leaf_count (drop k (items_of sheet))) × (length next.joins + length next.pile ≡ length next.leaves)
+        go : (x : Bool) → eqb i.kind leaf ≡ x → Tally
         go true e =
             let f = eqb-true i.kind leaf e in
             rw (e, build_item) (
-              omega (arith, length-append d.leaves (part i.range q.columns ∷ []), leaves_held sheet b, counts-leaf q k h f),
+              omega (arith, length-append d.leaves (part i.range q.columns ∷ []), leaves_held sheet b l, counts-leaf q k h f),
               omega (arith, length-append d.leaves (part i.range q.columns ∷ []), sum),
             )
         go false e =
             let f = eqb-false i.kind leaf e in
-            let t = onto d.pile (omega (arith, two f, height_held sheet b)) sum in
+            let t = onto d.pile (omega (arith, two f, height_held sheet b l)) sum in
             rw (e, build_item) (
-              omega (arith, ap length t.0, leaves_held sheet b, counts-join q k h f),
+              omega (arith, ap length t.0, leaves_held sheet b l, counts-join q k h f),
               omega (arith, ap length t.0, t.1),
             )
 
-    pub along_next : LeavesFit sheet c.counts c.numbers → Added b.counts.edges c.counts.edges b.edges c.edges → Places c.numbers c.sets → Along sheet (k + 1) c
-    along_next fits added places =
+    pub along_next : LeavesFit sheet c → Added b.edges c.edges l m → Along sheet (k + 1) c m
+    along_next fits added =
         record {
           fits = fits;
-          walk = λ z. rw (sym height-next) (item-height (open_question q) k i is (build_of sheet b) walked);
+          walk = λ z. rw (sym height-next) (item-height (open_question q) k i is (build_of sheet b l) walked);
           leaves = omega (arith, tally.0, leaves-next, w.leaves);
           joins = omega (arith, tally.1, leaves-next, joins_next, height-next);
-          edges = longer_added added (omega (arith, item_count_lem (open_question q) k i is (build_of sheet b) fit walked, edges-next, edges_held_lem b.counts.edges b.edges, ap edge_count here)) w.edges;
-          places = places;
+          edges = longer_added added room w.edges;
         }
       where
         fit : JoinFits (open_question q) i
         fit e = omega (arith, s.join_ranges k h e, length_open_predicates q)
 
-  -- after a join or a cross product of the two top things on the pile
-  module _ (s : Sound q) (e : i.kind ≡ leaf → ⊥) (c : State) (n : ℕ) (p : Range) where
-    abbrev joined_as : OpenItem → Build
-    joined_as x = join (open_question q) k x (get_or b.sets (b.counts.height - 2) 0) (get_or b.sets (b.counts.height - 1) 0) (drop 2 (build_of sheet b).pile) (build_of sheet b)
+        room : c.edges + edge_count is ≤ b.edges + edge_count (drop k (items_of sheet))
+        room = omega (arith, item_count_lem (open_question q) k i is (build_of sheet b l) fit walked, edges-next, edges_held_lem b.edges l, ap edge_count here)
 
-    pub join-next : n ≡ i.kind → p ≡ i.range → build_of sheet c ≡ joined_as (record { kind = n; range = p }) → c.counts.leaves ≡ b.counts.leaves → LeavesFit sheet b.counts c.numbers
-        → Added b.counts.edges c.counts.edges b.edges c.edges → Places c.numbers c.sets
-        → (build_of sheet c ≡ build_item join (open_question q) k i (build_of sheet b)) × (Along sheet (k + 1) c × Added b.counts.edges c.counts.edges b.edges c.edges)
-    join-next kind range made same fits added places =
-        let is = ap₂ (λ (x : ℕ) (r : Range). joined_as (record { kind = x; range = r })) kind range in
-        let built = join_built (open_question q) k i (build_of sheet b) (build_of sheet c) b.counts.height b.sets (two e) refl e (made ∙ is) in
-        (built, (along_next c built s (fits_same sheet c.numbers same fits) added places, added))
+  -- after a join or a cross product of the two top things on the pile
+  module _ (s : Sound q) (e : i.kind ≡ leaf → ⊥) (c : HypergraphBuilder) (m : EdgeLists) (n : ℕ) (p : Range) where
+    abbrev height : ℕ
+    height = length b.pile.items
+
+    abbrev joined_as : ℕ → ℕ → OpenItem → Build
+    joined_as x y o = join (open_question q) k o x y (drop 2 (build_of sheet b l).pile) (build_of sheet b l)
+
+    pub join-next : {x y : ℕ} → n ≡ i.kind → p ≡ i.range → x ≡ get_or b.pile.items (height - 2) 0 → y ≡ get_or b.pile.items (height - 1) 0
+        → build_of sheet c m ≡ joined_as x y (record { kind = n; range = p }) → LeavesFit sheet c → Added b.edges c.edges l m
+        → (build_of sheet c m ≡ build_item join (open_question q) k i (build_of sheet b l)) × (Along sheet (k + 1) c m × Added b.edges c.edges l m)
+    join-next {x} {y} kind range left right made fits added =
+        let is : joined_as x y (record { kind = n; range = p }) ≡ joined_as (get_or b.pile.items (height - 2) 0) (get_or b.pile.items (height - 1) 0) i =
+        ap₂ (λ (z : ℕ) (r : Range). joined_as x y (record { kind = z; range = r })) kind range ∙ ap₂ (λ (u v : ℕ). joined_as u v i) left right in
+        let built = join_built (open_question q) k i (build_of sheet b l) (build_of sheet c m) b.pile.items (two e) refl e (made ∙ is) in
+        (built, (along_next c m built s fits added, added))
 
 -- ---- the first item, and the end
 
-pub along_start : (sheet : List ℕ) (e : EdgeLists) (numbers sets : List ℕ) → Sound (question_of sheet) → Longer (edge_count (items_of sheet)) e → Places numbers sets
-    → Along sheet 0 (state (counted 0 0 0 0) e numbers sets)
-along_start sheet e numbers sets s longer places =
+pub along_start : (sheet : List ℕ) (e : EdgeLists) → Sound (question_of sheet) → Longer (edge_count (items_of sheet)) e → Along sheet 0 empty e
+along_start sheet e s longer =
     record {
-      fits = record { few = omega arith; firsts = omega arith; counts = omega arith; inside = λ k h. absurd (omega arith) };
+      fits = record { few = omega arith; inside = λ k h. absurd (omega arith) };
       walk = λ z. sym (walk_items (question_of sheet) (omega (arith, length_open_items (question_of sheet)))) ∙ s.walk;
       leaves = omega (arith, s.few_leaves);
       joins = refl;
       edges = longer_less (omega arith) longer;
-      places = places;
     }
 
 -- the items from k on
@@ -252,16 +274,20 @@ rest_end sheet k b h =
     let g : length (items_of sheet) ≤ k = omega (arith, length_open_items (question_of sheet)) in
     ap (λ (l : List OpenItem). build_from join (open_question (question_of sheet)) k l b) (drop_of_length-le (items_of sheet) g)
 
-module _ (sheet : List ℕ) (b : State) (built : build_of sheet b ≡ rest sheet 0 empty_build) where
-  whole-edges : edges_in b.counts.edges b.edges ≡ build_hypergraph (open_question (question_of sheet))
+-- what stands where no item is left
+pub walked_all : (sheet : List ℕ) (s : Sections) (k : ℕ) (b c : Build) → Placed sheet s → s.items.count ≤ k → rest sheet k b ≡ c → b ≡ c
+walked_all sheet s k b c p h e = sym (rest_end sheet k b (omega (arith, p.items_many, length_items sheet))) ∙ e
+
+module _ (sheet : List ℕ) (b : HypergraphBuilder) (e : EdgeLists) (built : build_of sheet b e ≡ rest sheet 0 empty_build) where
+  whole-edges : edges_in b.edges e ≡ build_hypergraph (open_question (question_of sheet))
   unfolding build_hypergraph
   whole-edges = ap (λ (x : Build). x.edges) built
 
-  pub whole_count : b.counts.edges ≡ length (build_hypergraph (open_question (question_of sheet)))
-  whole_count = sym (edges_held_lem b.counts.edges b.edges) ∙ ap length whole-edges
+  pub whole_count : b.edges ≡ length (build_hypergraph (open_question (question_of sheet)))
+  whole_count = sym (edges_held_lem b.edges e) ∙ ap length whole-edges
 
-  pub whole_few : Sound (question_of sheet) → b.counts.edges ≡ edge_count (items_of sheet)
+  pub whole_few : Sound (question_of sheet) → b.edges ≡ edge_count (items_of sheet)
   whole_few s = whole_count ∙ sound_edges-counted (question_of sheet) s
 
-  pub whole-lists : (h : EdgeLists) → Added 0 b.counts.edges h b.edges → Longer b.counts.edges b.edges → b.edges ≡ edges_held (build_hypergraph (open_question (question_of sheet))) h
-  whole-lists h a l = lists_held 0 b.counts.edges h b.edges a l ∙ ap (λ (es : List Edge). edges_held es h) whole-edges
+  pub whole-lists : (h : EdgeLists) → Added 0 b.edges h e → Longer b.edges e → e ≡ edges_held (build_hypergraph (open_question (question_of sheet))) h
+  whole-lists h a l = lists_held 0 b.edges h e a l ∙ ap (λ (es : List Edge). edges_held es h) whole-edges

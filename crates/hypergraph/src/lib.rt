@@ -7,119 +7,80 @@ ghost use Rattle.definition.specs.Question.{open_item, open_question, item};
 ghost use Rattle.definition.specs.Sheet.{question_of};
 ghost use Rattle.definition.specs.Accepted.{Sound};
 ghost use Rattle.definition.specs.Edges.{join, build_item, build_hypergraph, edge_count};
-ghost use Rattle.sheet.specs.Views.{Placed};
-ghost use Rattle.builder.specs.Builds.{edge_lists, edges_held, state, build_of, Longer, Added};
+ghost use Rattle.builder.specs.Builds.{edge_lists_of, SameEdgeLists, edges_held, build_of, Longer, Added};
 ghost use Rattle.hypergraph.specs.Walk.{item_edges, Along};
 
-use builder::HypergraphBuilder;
+use builder::{EdgeLists, HypergraphBuilder};
 use joins::JoinItem;
-use sheet::Sections;
+use sheet::Sheet;
 
 // How many edges the items make, by their words alone.
-pub fn edge_count(sheet: &[u8], s: Sections) -> u64
-    requires { Placed sheet.now s }
-    ensures { result ≡ edge_count (open_question (question_of sheet.now)).items }
+pub fn edge_count(sheet: &Sheet<'_>) -> u64
+    ensures { result ≡ edge_count (open_question (question_of sheet.now.bytes.now)).items }
 {
-    let n = s.items.count;
-    let mut edges: u64 = 0;
-    let mut i: usize = 0;
-    while i < n {
-        edges += item_edges(sheet, s, i);
-        i += 1;
+    let mut edges = 0;
+    for i in 0..sheet.sections.items.count {
+        edges += item_edges(sheet, i);
     }
     edges
 }
 
-fn item_edges(sheet: &[u8], s: Sections, i: usize) -> u64
-    requires { Placed sheet.now s × (i < s.items.count) }
-    ensures { (result ≡ item_edges (open_item (item (question_of sheet.now) i))) × (result < 4294967296) }
+// kept: a kind is the sheet's own word, which document 01 numbers: 9 is a leaf, 8 a cross product, and a sheet that is not checked may have any.
+#[tactic(auto, unfolding(crate::specs::Walk::item_edges))]
+fn item_edges(sheet: &Sheet<'_>, i: usize) -> u64
+    requires { i < sheet.now.sections.items.count }
+    ensures edges { result ≡ item_edges (open_item (item (question_of sheet.now.bytes.now) i)) }
+    ensures few { result < 4294967296 }
 {
-    let kind = sheet::item_kind(sheet, s, i);
-    if kind == 9 {
-        return 0;
+    match sheet.item_kind(i) {
+        9 => 0,
+        8 => 1,
+        _ => sheet.item_range(i).count as u64,
     }
-    if kind == 8 {
-        return 1;
-    }
-    let p = sheet::item_range(sheet, s, i);
-    p.count as u64
 }
 
 // Item k.
-fn item(
-    b: HypergraphBuilder,
-    sheet: &[u8],
-    s: Sections,
-    k: u32,
-    left: &mut [u64],
-    right: &mut [u64],
-    predicate: &mut [u32],
-    source: &mut [u32],
-    kind: &mut [u32],
-    numbers: &mut [u32],
-    sets: &mut [u64],
-) -> HypergraphBuilder
-    requires { Placed sheet.now s × Sound (question_of sheet.now) × Along sheet.now k (state b (edge_lists left.old right.old predicate.old source.old kind.old) numbers.old sets.old) × (k < s.items.count) }
-    ensures built { build_of sheet.now (state result (edge_lists left.new right.new predicate.new source.new kind.new) numbers.new sets.new) ≡ build_item join (open_question (question_of sheet.now)) k (open_item (item (question_of sheet.now) k)) (build_of sheet.now (state b (edge_lists left.old right.old predicate.old source.old kind.old) numbers.old sets.old)) }
-    ensures along { Along sheet.now (k + 1) (state result (edge_lists left.new right.new predicate.new source.new kind.new) numbers.new sets.new) }
-    ensures rest { Added b.edges result.edges (edge_lists left.old right.old predicate.old source.old kind.old) (edge_lists left.new right.new predicate.new source.new kind.new) }
+// kept: kinds as in item_edges.
+fn item(b: &mut HypergraphBuilder, lists: &mut EdgeLists<'_>, sheet: &Sheet<'_>, k: u32)
+    requires { Sound (question_of sheet.now.bytes.now) × Along sheet.now.bytes.now k b.old (edge_lists_of lists.old) × (k < sheet.now.sections.items.count) }
+    ensures same { SameEdgeLists lists.old lists.new }
+    ensures built { let q = question_of sheet.now.bytes.now in
+        build_of sheet.now.bytes.now b.new (edge_lists_of lists.new)
+        ≡ build_item join (open_question q) k (open_item (item q k)) (build_of sheet.now.bytes.now b.old (edge_lists_of lists.old)) }
+    ensures along { Along sheet.now.bytes.now (k + 1) b.new (edge_lists_of lists.new) }
+    ensures rest { Added b.old.edges b.new.edges (edge_lists_of lists.old) (edge_lists_of lists.new) }
 {
-    let i = k as usize;
-    let item_kind = sheet::item_kind(sheet, s, i);
-    let p = sheet::item_range(sheet, s, i);
-    if item_kind == 9 {
-        return b.add_leaf(numbers, sets, p);
+    let kind = sheet.item_kind(k as usize);
+    let range = sheet.item_range(k as usize);
+    if kind == 9 {
+        b.add_leaf(range);
+        return;
     }
-    let h = b.height;
     let j = JoinItem {
         number: k,
-        kind: item_kind,
-        predicates: p,
-        left: sets[h - 2],
-        right: sets[h - 1],
+        kind,
+        predicates: range,
+        whole: b.top_two(),
     };
-    if item_kind == 8 {
-        return joins::cross_item(b, left, right, predicate, source, kind, numbers, sets, j);
+    if kind == 8 {
+        joins::cross_item(b, lists, j);
+    } else {
+        joins::join_item(b, lists, sheet, j);
     }
-    joins::join_item(
-        b, sheet, s, left, right, predicate, source, kind, numbers, sets, j,
-    )
 }
 
 // The edges of a sheet that the check accepts go to the five lists: what stood behind them stays. Answers how many they are.
-pub fn build_hypergraph(
-    sheet: &[u8],
-    s: Sections,
-    left: &mut [u64],
-    right: &mut [u64],
-    predicate: &mut [u32],
-    source: &mut [u32],
-    kind: &mut [u32],
-) -> u32
-    requires { Placed sheet.now s × Sound (question_of sheet.now) × (edge_count (open_question (question_of sheet.now)).items ≤ 256) × Longer (edge_count (open_question (question_of sheet.now)).items) (edge_lists left.old right.old predicate.old source.old kind.old) }
-    ensures count { result ≡ length (build_hypergraph (open_question (question_of sheet.now))) }
-    ensures lists { (edge_lists left.new right.new predicate.new source.new kind.new) ≡ edges_held (build_hypergraph (open_question (question_of sheet.now))) (edge_lists left.old right.old predicate.old source.old kind.old) }
+pub fn build_hypergraph(sheet: &Sheet<'_>, lists: &mut EdgeLists<'_>) -> u32
+    requires { Sound (question_of sheet.now.bytes.now)
+        × (edge_count (open_question (question_of sheet.now.bytes.now)).items ≤ 256)
+        × Longer (edge_count (open_question (question_of sheet.now.bytes.now)).items) (edge_lists_of lists.old) }
+    ensures same { SameEdgeLists lists.old lists.new }
+    ensures count { result ≡ length (build_hypergraph (open_question (question_of sheet.now.bytes.now))) }
+    ensures lists { edge_lists_of lists.new ≡ edges_held (build_hypergraph (open_question (question_of sheet.now.bytes.now))) (edge_lists_of lists.old) }
 {
-    let n = s.items.count as u32;
-    let mut numbers = [0u32; 192];
-    let mut sets = [0u64; 320];
     let mut b = HypergraphBuilder::new();
-    let mut k: u32 = 0;
-    while k < n {
-        b = item(
-            b,
-            sheet,
-            s,
-            k,
-            left,
-            right,
-            predicate,
-            source,
-            kind,
-            &mut numbers,
-            &mut sets,
-        );
-        k += 1;
+    for k in 0..sheet.sections.items.count as u32 {
+        item(&mut b, lists, sheet, k);
     }
     b.edges as u32
 }

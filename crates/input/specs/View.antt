@@ -1,8 +1,8 @@
--- The table of leaves as the definition's list. Definitions only.
-use Rattle.std.specs.Prelude.{List}
+-- The leaves as the definition's list. Definitions only.
+use Rattle.std.specs.Prelude.{List, map}
 use Rattle.definition.specs.Search.{Leaf}
-use Rattle.definition.specs.LeafView.{leaves_from}
-use Rattle.input.specs.declared.LeafTable.{LeafTable}
+use Rattle.cost.specs.View.{leaf_of}
+use Rattle.cost.specs.declared.Leaf as cost
 
-abbrev pub leaves_in : LeafTable → List Leaf
-leaves_in t = leaves_from t.count t.rows t.columns
+abbrev pub leaves_in : List cost.Leaf → List Leaf
+leaves_in leaves = map leaf_of leaves

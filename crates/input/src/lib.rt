@@ -1,86 +1,61 @@
-// What the search is given beside the edges, read from an accepted sheet into arrays: the items' kinds, the predicates' selectivities, the
-// leaves' rows and column counts.
+// What the search is given beside the edges, read from an accepted sheet into arrays: the items' kinds, the predicates' selectivities, and
+// each leaf's rows and number of columns.
 #![tactic(auto)]
 
-ghost use Rattle.std.specs.Prelude.{◌≡◌, ◌++◌, map, ◌+◌, ◌<◌, ◌≤◌, length, take, drop};
+ghost use Rattle.std.specs.Prelude.{◌≡◌, map, ◌≤◌, length, take};
 ghost use Rattle.definition.specs.Question.{Item, Predicate, open_question, leaf_count};
 ghost use Rattle.definition.specs.Sheet.{question_of};
 ghost use Rattle.definition.specs.Call.{leaves_of};
-ghost use Rattle.sheet.specs.Views.{Placed};
 ghost use Rattle.input.specs.View.{leaves_in};
 
+use arrayvec::ArrayVec;
+use cost::Leaf;
 use nodeset::PredicateId;
-use sheet::Sections;
+use sheet::Sheet;
 
-// Each leaf's row count and the number of its columns, of which the first count places count.
-#[derive(Drop)]
-pub struct LeafTable {
-    pub rows: [u64; 64],
-    pub columns: [u32; 64],
-    pub count: usize,
-}
+// An item's kind where it is a leaf.
+// kept: a kind is a number, as the sheet and the search's list of kinds hold it.
+const LEAF: u32 = 9;
 
-pub fn kinds(sheet: &[u8], s: Sections) -> [u32; 127]
-    requires { Placed sheet.now s }
+// The kind of each item, and 0 behind them.
+// kept: beside selectivities, since one function for both would take the reader and what it gives as parameters.
+pub fn kinds(sheet: &Sheet<'_>) -> [u32; 127]
     ensures size { length result ≡ 127 }
-    ensures kinds { take s.items.count result ≡ map (λ (i : Item). i.kind) (question_of sheet.now).items }
+    ensures kinds { take sheet.now.sections.items.count result ≡ map (λ (i : Item). i.kind) (question_of sheet.now.bytes.now).items }
 {
-    let n = s.items.count;
-    let mut r = [0u32; 127];
-    let mut i: usize = 0;
-    while i < n {
-        r[i] = sheet::item_kind(sheet, s, i);
-        i += 1;
-    }
-    r
+    let n = sheet.sections.items.count;
+    std::array::from_fn(|i| if i < n { sheet.item_kind(i) } else { 0 })
 }
 
-pub fn selectivities(sheet: &[u8], s: Sections) -> [u32; 256]
-    requires { Placed sheet.now s }
+// The selectivity of each predicate, and 0 behind them.
+// kept: beside kinds, as said there.
+pub fn selectivities(sheet: &Sheet<'_>) -> [u32; 256]
     ensures size { length result ≡ 256 }
-    ensures selectivities { take s.predicates.count result ≡ map (λ (p : Predicate). p.selectivity) (question_of sheet.now).predicates }
+    ensures selectivities { take sheet.now.sections.predicates.count result
+        ≡ map (λ (p : Predicate). p.selectivity) (question_of sheet.now.bytes.now).predicates }
 {
-    let n = s.predicates.count as u32;
-    let mut r = [0u32; 256];
-    let mut p: u32 = 0;
-    while p < n {
-        let i = p as usize;
-        r[i] = sheet::predicate_selectivity(sheet, s, PredicateId(p));
-        p += 1;
-    }
-    r
+    let n = sheet.sections.predicates.count;
+    std::array::from_fn(|i| {
+        if i < n {
+            sheet.predicate_selectivity(PredicateId(i as u32))
+        } else {
+            0
+        }
+    })
 }
 
-// The table with item i, where that is a leaf.
-fn with_item(mut t: LeafTable, sheet: &[u8], s: Sections, i: usize) -> LeafTable
-    requires { Placed sheet.now s × (i < s.items.count) × (t.count + leaf_count (drop i (open_question (question_of sheet.now)).items) ≤ 64) }
-    ensures leaves { leaves_in result ++ leaves_of (drop (i + 1) (question_of sheet.now).items) ≡ leaves_in t ++ leaves_of (drop i (question_of sheet.now).items) }
-    ensures room { result.count + leaf_count (drop (i + 1) (open_question (question_of sheet.now)).items) ≤ 64 }
+// The leaves, in the items' order.
+pub fn leaves(sheet: &Sheet<'_>) -> ArrayVec<Leaf, 64>
+    requires { leaf_count (open_question (question_of sheet.now.bytes.now)).items ≤ 64 }
+    ensures { leaves_in result.items ≡ leaves_of (question_of sheet.now.bytes.now).items }
 {
-    if sheet::item_kind(sheet, s, i) != 9 {
-        return t;
+    let mut leaves = ArrayVec::new();
+    for i in 0..sheet.sections.items.count {
+        if sheet.item_kind(i) == LEAF {
+            let rows = sheet.item_rows(i);
+            let columns = sheet.item_range(i).count;
+            leaves.push(Leaf { rows, columns });
+        }
     }
-    let k = t.count;
-    t.rows[k] = sheet::item_rows(sheet, s, i);
-    t.columns[k] = sheet::item_range(sheet, s, i).count;
-    t.count = k + 1;
-    t
-}
-
-pub fn leaves(sheet: &[u8], s: Sections) -> LeafTable
-    requires { Placed sheet.now s × (leaf_count (open_question (question_of sheet.now)).items ≤ 64) }
-    ensures { leaves_in result ≡ leaves_of (question_of sheet.now).items }
-{
-    let n = s.items.count;
-    let mut t = LeafTable {
-        rows: [0; 64],
-        columns: [0; 64],
-        count: 0,
-    };
-    let mut i: usize = 0;
-    while i < n {
-        t = with_item(t, sheet, s, i);
-        i += 1;
-    }
-    t
+    leaves
 }

@@ -1,10 +1,12 @@
 -- The edges of a join as steps of the definition's build, and what its functions ask. Definitions only.
-use Rattle.std.specs.Prelude.{true, false, List, ℕ, ◌≤◌, eqb}
+use Rattle.std.specs.Prelude.{true, false, List, ℕ, eqb}
 use Rattle.definition.specs.Question.{Range, part, OpenItem, OpenQuestion, inner}
 use Rattle.definition.specs.Hypergraph.{Edge}
-use Rattle.definition.specs.Edges.{Build, Sides, inner_edges, other_edges}
+use Rattle.definition.specs.Lists.{concat_map}
+use Rattle.definition.specs.Tables.{type_of}
+use Rattle.definition.specs.Edges.{Build, Sides, sides_for, inner_edges, other_edges}
 use Rattle.sheet.specs.Views.{range_of}
-use Rattle.builder.specs.Builds.{Places, LeavesFit}
+use Rattle.builder.specs.Builds.{LeavesFit}
 use Rattle.builder.specs.declared.HypergraphBuilder.{HypergraphBuilder}
 use Rattle.joins.specs.declared.JoinItem.{JoinItem}
 
@@ -18,11 +20,15 @@ edges_by q k kind t p l r s b =
     let ps = part p q.predicates in
     elim (eqb kind inner) [ true ↦ inner_edges q.columns k l r p.first ps b | false ↦ other_edges s k t p.first ps b ]
 
+-- the sides of the edge of predicate n: an Inner join's are those for its columns, another's the record sets s
+abbrev pub sides_by : OpenQuestion → ℕ → ℕ → ℕ → Sides → ℕ → Build → Sides
+sides_by q kind l r s n b =
+    let columns = concat_map (λ (p : Range). part p q.columns) (part (record { first = n; count = 1 }) q.predicates) in
+    elim (eqb kind inner) [ true ↦ sides_for b (type_of kind) l r columns | false ↦ s ]
+
 abbrev pub item_of : JoinItem → OpenItem
 item_of j = record { kind = j.kind; range = range_of j.predicates }
 
--- the leaves and the joins so far are held
-pub record Ready (sheet : List ℕ) (b : HypergraphBuilder) (numbers sets : List ℕ) : Type 0 where
-  pub leaves : LeavesFit sheet b numbers
-  pub joins : b.joins ≤ 64
-  pub places : Places numbers sets
+-- the leaves so far are held
+pub record Ready (sheet : List ℕ) (b : HypergraphBuilder) : Type 0 where
+  pub leaves : LeavesFit sheet b

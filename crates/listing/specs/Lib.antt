@@ -2,3 +2,4 @@ pub mod Text
 pub mod Laws
 pub mod TextLaws
 pub mod ReadBack
+pub mod Same

@@ -1,11 +1,9 @@
 -- The tried list's text as it lies in a lent list, and the candidates' pairs as they lie in two. Definitions only.
-use Rattle.std.specs.Prelude.{◌≡◌, true, false, List, ◌++◌, ℕ, zero, suc, ◌+◌, ◌-◌, length, get_or, drop, ltb}
+use Rattle.std.specs.Prelude.{◌≡◌, true, false, Option, None, Some, List, ◌++◌, ℕ, zero, suc, ◌+◌, ◌-◌, length, get_or, drop, ltb}
 use Rattle.std.proofs.lemmas.List.Edits.{sets}
 use Rattle.definition.specs.Lists.{tabulate}
 use Rattle.definition.specs.Search.{Pair}
 use Rattle.definition.specs.TriedList.{decimal}
-use Rattle.listing.specs.declared.Written.{Written}
-use Rattle.listing.specs.declared.Written.TheVariants.{Bytes, NoRoom}
 
 -- bytes written from the place `at` on, those past the list's end nowhere; `end` is the place behind them
 pub record Puts (bytes before after : List ℕ) (at end : ℕ) : Type 0 where
@@ -17,8 +15,8 @@ abbrev pub pairs_of : List ℕ → List ℕ → ℕ → List Pair
 pairs_of left right n = tabulate n (λ i. record { left = get_or left i 0; right = get_or right i 0 })
 
 -- the text is written if it fits
-unfoldable pub answer_for : List ℕ → List ℕ → Written
-answer_for text out = elim (ltb (length out) (length text)) [ true ↦ NoRoom | false ↦ Bytes (length text) ]
+unfoldable pub answer_for : List ℕ → List ℕ → Option ℕ
+answer_for text out = elim (ltb (length out) (length text)) [ true ↦ None | false ↦ Some (length text) ]
 
 unfoldable pub written_in : List ℕ → List ℕ → List ℕ
 written_in text out = elim (ltb (length out) (length text)) [ true ↦ out | false ↦ text ++ drop (length text) out ]

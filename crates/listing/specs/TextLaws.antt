@@ -1,5 +1,5 @@
 -- Laws of the whole text and of the sets read back. Assumes nothing.
-use Rattle.std.specs.Prelude.{◌≡◌, get_or, set}
+use Rattle.std.specs.Prelude.{◌≡◌, None, Some, get_or, set}
 use Rattle.std.proofs.Math.Path.{refl, ap}
 use Rattle.std.proofs.Common.{sym, ap₂, ◌∙◌, add-zero, add-suc, suc-add, add-one, arith}
 use mathlib.Core.List.{List, [], ◌∷◌, ◌++◌, append_assoc, append-nil}
@@ -13,7 +13,6 @@ use Rattle.definition.specs.Lists.{tabulate}
 use Rattle.definition.proofs.ListLaws.{length-tabulate, tabulate_more}
 use Rattle.definition.specs.Search.{Pair}
 use Rattle.definition.specs.TriedList.{decimal, hex16, line, tried_lines, tried_list}
-use Rattle.listing.specs.declared.Written.TheVariants.{Bytes, NoRoom}
 use Rattle.listing.specs.Text.{Puts, pairs_of, answer_for, written_in, head_length, lines_length, side_sets}
 use Rattle.listing.specs.Laws.{line-length, sets-append, puts_none, puts_then, decimal_ten, length_hex}
 
@@ -74,7 +73,13 @@ module _ (left right : List ℕ) where
   lines_length_lem (suc n) =
       ap (λ (k : ℕ). length (tried_lines 0 (pairs_of left right k))) (sym (add-one n)) ∙ ap length (lines_more n)
       ∙ length-append (tried_lines 0 (pairs_of left right n)) (line_of n)
-      ∙ omega (arith, lines_length_lem n, line-length (decimal n) (hex16 (get_or left n 0)) (hex16 (get_or right n 0)), length_hex 16 (get_or left n 0), length_hex 16 (get_or right n 0))
+      ∙ omega (
+        arith,
+        lines_length_lem n,
+        line-length (decimal n) (hex16 (get_or left n 0)) (hex16 (get_or right n 0)),
+        length_hex 16 (get_or left n 0),
+        length_hex 16 (get_or right n 0),
+      )
 
   -- ---- the text
 
@@ -98,15 +103,16 @@ module _ (left right : List ℕ) where
 -- ---- whether a text fits
 
 module _ (text out : List ℕ) where
-  pub no_room : length out < length text → (NoRoom ≡ answer_for text out) × (out ≡ written_in text out)
+  pub no_room : length out < length text → (None ≡ answer_for text out) × (out ≡ written_in text out)
   unfolding answer_for written_in
   no_room h = let t = lt-ltb (length out) (length text) h in (rw (answer_for, t), rw (written_in, t))
 
-  pub room : {end : ℕ} {after : List ℕ} → length text ≤ length out → Puts text out after 0 end → (Bytes end ≡ answer_for text out) × (after ≡ written_in text out)
+  pub room : {end : ℕ} {after : List ℕ} → length text ≤ length out → Puts text out after 0 end
+      → (Some end ≡ answer_for text out) × (after ≡ written_in text out)
   unfolding answer_for written_in
   room h p =
       let t = le-ltb (length out) (length text) h in (
-        rw (answer_for, t) (ap Bytes (p.place ∙ zero-add (length text))),
+        rw (answer_for, t) (ap Some (p.place ∙ zero-add (length text))),
         rw (written_in, t) (p.list ∙ sets-eq text out 0 (rw zero-add h) ∙ ap (λ (k : ℕ). text ++ drop k out) (zero-add (length text))),
       )
 

@@ -33,7 +33,8 @@ bit_removed v i j h l f =
 
 bit_gone : (v i : ℕ) → i < 64 → bit (difference v (2 ^ i)) i ≡ 0
 bit_gone v i h =
-    bit-and v (2 ^ 64 - 1 - 2 ^ i) i ∙ ap (λ (x : ℕ). min (bit v i) x) (bit_not 64 (2 ^ i) i (pow-lt h) h ∙ ap (λ (x : ℕ). 1 - x) (bit_one i)) ∙ min-zero (bit v i)
+    bit-and v (2 ^ 64 - 1 - 2 ^ i) i
+    ∙ ap (λ (x : ℕ). min (bit v i) x) (bit_not 64 (2 ^ i) i (pow-lt h) h ∙ ap (λ (x : ℕ). 1 - x) (bit_one i)) ∙ min-zero (bit v i)
 
 below_step : (v i : ℕ) → Highest 64 v i → singletons_below 64 v ≡ 2 ^ i ∷ singletons_below 64 (difference v (2 ^ i))
 unfolding singletons_below
@@ -45,7 +46,8 @@ below_step v i h =
     ∙ ap (λ (l : List ℕ). 2 ^ i ∷ l)
     (same i v w (λ j l. sym (bit_removed v i j in-k (omega arith) (λ e. lt_irrefl j (subst (λ (x : ℕ). j < x) e l))))
     ∙ sym (ap (λ (b : ℕ). elim b [ zero ↦ singletons_below i w | suc _ ↦ 2 ^ i ∷ singletons_below i w ]) (bit_gone v i in-k))
-    ∙ sym (skip 64 i w in-k (λ j l. bit-and v (2 ^ 64 - 1 - 2 ^ i) j ∙ ap (λ (x : ℕ). min x (bit (2 ^ 64 - 1 - 2 ^ i) j)) (h.most j l) ∙ zero-min (bit (2 ^ 64 - 1 - 2 ^ i) j))))
+    ∙ sym (skip 64 i w in-k
+    (λ j l. bit-and v (2 ^ 64 - 1 - 2 ^ i) j ∙ ap (λ (x : ℕ). min x (bit (2 ^ 64 - 1 - 2 ^ i) j)) (h.most j l) ∙ zero-min (bit (2 ^ 64 - 1 - 2 ^ i) j))))
 
 module _ (v : ℕ) (p : 0 < v) (h : v < 2 ^ 64) where
   -- the highest leaf comes first, and those of the rest follow

@@ -226,7 +226,9 @@ subsets_of_has (suc d) (suc s) n h e = go (n % 2) refl (suc s % 2) refl (subsets
     low = omega (arith, pow-suc 2 d)
 
     go : (b : ℕ) → n % 2 ≡ b → (c : ℕ) → suc s % 2 ≡ c → Memᴰ (n / 2) (subsets_of d (suc s / 2)) → Memᴰ n (doubled c (subsets_of d (suc s / 2)))
-    go zero p c q m = subst (λ (x : ℕ). Memᴰ x (doubled c (subsets_of d (suc s / 2)))) (let z : n / 2 * 2 ≡ n = omega arith in z) (doubled_has_even c (n / 2) (subsets_of d (suc s / 2)) m)
+    go zero p c q m =
+        subst (λ (x : ℕ). Memᴰ x (doubled c (subsets_of d (suc s / 2)))) (let z : n / 2 * 2 ≡ n = omega arith in z)
+        (doubled_has_even c (n / 2) (subsets_of d (suc s / 2)) m)
     go (suc b) p zero q m = absurd (omega (arith, st))
     go (suc b) p (suc c) q m =
         subst (λ (x : ℕ). Memᴰ x (doubled (suc c) (subsets_of d (suc s / 2)))) (let z : n / 2 * 2 + 1 ≡ n = omega (arith, mod-lt n (zero-lt-suc 1)) in z)

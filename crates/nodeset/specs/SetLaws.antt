@@ -1,6 +1,9 @@
 -- Laws of sets, by their digits. Assumes nothing.
 use Rattle.std.specs.Prelude.{◌≡◌, ℕ, zero, suc, ◌+◌, ◌-◌, ◌*◌, ◌/◌, ◌%◌, ◌^◌, ◌<◌, ◌≤◌, min, max, Bool, true, false, ◌⊎◌, ◌==◌, ◌≢◌, refl}
-use Rattle.std.proofs.Common.{sym, ap, ◌∙◌, subst, inl, inr, zero-le, suc-le-suc, mod-lt, zero-lt-suc, lt_of_le_of_lt, lt_of_lt_of_le, le-div_iff_mul-le, div-lt_iff_lt-mul, mul_comm, pow-suc, le_refl, one-mul, div-one, le_of_suc-le-suc, not-suc-le-zero, lt_irrefl, one-add, arith, pow_pos, pow_mono, shr-shr, lt-ltb, le-ltb, eq-eqb, ne_eqb, eqb-true}
+use Rattle.std.proofs.Common.{sym, ap, ◌∙◌, subst, inl, inr, zero-le, suc-le-suc, mod-lt, zero-lt-suc}
+use Rattle.std.proofs.Common.{lt_of_le_of_lt, lt_of_lt_of_le, le-div_iff_mul-le, div-lt_iff_lt-mul, mul_comm, pow-suc, le_refl, one-mul}
+use Rattle.std.proofs.Common.{div-one, le_of_suc-le-suc, not-suc-le-zero, lt_irrefl, one-add, arith, pow_pos, pow_mono, shr-shr, lt-ltb}
+use Rattle.std.proofs.Common.{le-ltb, eq-eqb, ne_eqb, eqb-true}
 use Rattle.std.proofs.Math.Nat.{min-le_left, min-le_right, min-eq_left, min-eq_right, min-zero, max-le, div-eq_of_lt}
 use Rattle.std.proofs.Math.Arith.{digits_mod, lt-one, bin_ind}
 use Rattle.std.proofs.Math.Pow.{pow-lt, ones_lt}
@@ -102,7 +105,8 @@ bit_one_other (suc i) (suc j) f =
 
 -- the leaves below k
 pub bit_ones : (k i : ℕ) → i < k → bit (2 ^ k - 1) i ≡ 1
-bit_ones k i l = ap (λ (x : ℕ). bit x i) (sym (minus_zero (2 ^ k - 1))) ∙ bit_not k 0 i (pow_pos k) l ∙ ap (λ (x : ℕ). 1 - x) (bit_high 0 0 i (le_refl 1) zero-le)
+bit_ones k i l =
+    ap (λ (x : ℕ). bit x i) (sym (minus_zero (2 ^ k - 1))) ∙ bit_not k 0 i (pow_pos k) l ∙ ap (λ (x : ℕ). 1 - x) (bit_high 0 0 i (le_refl 1) zero-le)
   where
     minus_zero : (n : ℕ) → n - 0 ≡ n
     minus_zero n = omega arith
@@ -195,7 +199,8 @@ and_split (suc k) v x hv hx =
     let n = p * 2 - 1 - x in
     let ih = and_split k (v / 2) (x / 2) (half_pow k v hv) (half_pow k x hx) in
     let a = and_step v x in
-    let b : bit_and v n ≡ bit_and (v / 2) (p - 1 - x / 2) * 2 + min (v % 2) (n % 2) = and_step v n ∙ ap (λ (z : ℕ). bit_and (v / 2) z * 2 + min (v % 2) (n % 2)) (not_half p x hx2) in
+    let b : bit_and v n ≡ bit_and (v / 2) (p - 1 - x / 2) * 2 + min (v % 2) (n % 2) =
+    and_step v n ∙ ap (λ (z : ℕ). bit_and (v / 2) z * 2 + min (v % 2) (n % 2)) (not_half p x hx2) in
     let d = split_digit p v x hx2 (n % 2) (v % 2) refl refl in
     ap (λ (z : ℕ). bit_and v x + bit_and v (z - 1 - x)) (pow-suc 2 k) ∙ omega arith
 
@@ -205,7 +210,9 @@ and_one k v i hv l e =
     ext k (bit_and v (2 ^ i)) (2 ^ i) (lt_of_le_of_lt (and_le_r v (2 ^ i)) (pow-lt l)) (pow-lt l) (λ j m. bit-and v (2 ^ i) j ∙ go j (dec_eq i j))
   where
     go : (j : ℕ) → (i ≡ j) ⊎ (i ≢ j) → min (bit v j) (bit (2 ^ i) j) ≡ bit (2 ^ i) j
-    go j (inl q) = subst (λ (x : ℕ). min (bit v x) (bit (2 ^ i) x) ≡ bit (2 ^ i) x) q (ap (λ (x : ℕ). min x (bit (2 ^ i) i)) e ∙ ap (λ (x : ℕ). min 1 x) (bit_one i) ∙ sym (bit_one i))
+    go j (inl q) =
+        subst (λ (x : ℕ). min (bit v x) (bit (2 ^ i) x) ≡ bit (2 ^ i) x) q
+        (ap (λ (x : ℕ). min x (bit (2 ^ i) i)) e ∙ ap (λ (x : ℕ). min 1 x) (bit_one i) ∙ sym (bit_one i))
     go j (inr f) = let z = bit_one_other i j f in ap (λ (x : ℕ). min (bit v j) x) z ∙ min-zero (bit v j) ∙ sym z
 
     dec_eq : (a b : ℕ) → (a ≡ b) ⊎ (a ≢ b)

@@ -6,21 +6,26 @@ ghost use Rattle.nodeset.specs.Sets.{within, disjoint, difference, singleton, lo
 ghost use Rattle.nodeset.specs.Subsets.{next_subset};
 
 // A leaf's number.
+// kept: three types of the same shape, so that a number of one kind is never taken for one of another.
 #[derive(Clone, Copy)]
 pub struct NodeId(pub u32);
 
 // A plan's number: its place in the plan store.
+// kept: as NodeId.
 #[derive(Clone, Copy)]
 pub struct PlanId(pub u32);
 
 // A predicate's number: its place in the predicate table.
+// kept: as NodeId.
 #[derive(Clone, Copy)]
 pub struct PredicateId(pub u32);
 
 // No number, where a predicate, a lead edge or a chosen plan would have one.
+// kept: the lent lists hold numbers, and this one stands in them for none.
 pub const NONE: u32 = 4294967295;
 
 // The set of one leaf; empty for a number of 64 or more.
+#[tactic(auto, unfolding(crate::specs::Sets::singleton))]
 pub fn nodeset_singleton(id: NodeId) -> u64
     ensures { result ≡ singleton id.0 }
 {
@@ -29,6 +34,8 @@ pub fn nodeset_singleton(id: NodeId) -> u64
 }
 
 // The lowest leaf, and 64 for the empty set.
+// kept: 64 is a bound that the sets of leaves below it are made from, not a sign that nothing was found.
+#[tactic(auto, unfolding(crate::specs::Sets::lowest))]
 pub fn nodeset_min(s: u64) -> NodeId
     ensures { result.0 ≡ lowest s }
 {
@@ -36,6 +43,8 @@ pub fn nodeset_min(s: u64) -> NodeId
 }
 
 // The highest leaf, and 64 for the empty set.
+// kept: 64 as in nodeset_min, and no leaf in highest_singleton.
+#[tactic(auto, unfolding(crate::specs::Sets::highest))]
 pub fn nodeset_max(s: u64) -> NodeId
     ensures { result.0 ≡ highest s }
 {
@@ -45,24 +54,28 @@ pub fn nodeset_max(s: u64) -> NodeId
     NodeId(63 - u64::leading_zeros(s))
 }
 
+// Whether each leaf of a is one of s.
 pub fn is_subset(a: u64, s: u64) -> bool
     ensures { result ≡ within a s }
 {
     a & s == a
 }
 
+// Whether no leaf of a is one of b.
 pub fn is_disjoint(a: u64, b: u64) -> bool
     ensures { result ≡ disjoint a b }
 {
     a & b == 0
 }
 
+// The leaves of a and those of b.
 pub fn union(a: u64, b: u64) -> u64
     ensures { result ≡ bit_or a b }
 {
     a | b
 }
 
+// The leaves of a without those of b.
 pub fn difference(a: u64, b: u64) -> u64
     ensures { result ≡ difference a b }
 {
@@ -70,6 +83,7 @@ pub fn difference(a: u64, b: u64) -> u64
 }
 
 // All leaves below n; all 64 for more than 64.
+#[tactic(auto, unfolding(crate::specs::Sets::all_below))]
 pub fn all_nodes_mask(n: u32) -> u64
     ensures { result ≡ all_below n }
 {
@@ -80,6 +94,7 @@ pub fn all_nodes_mask(n: u32) -> u64
 }
 
 // All leaves up to the lowest of s; all 64 for the empty set.
+#[tactic(auto, unfolding(crate::specs::Sets::lowest, crate::specs::Sets::up_to_lowest))]
 pub fn b_min(s: u64) -> u64
     ensures { result ≡ up_to_lowest s }
 {

@@ -1,5 +1,5 @@
 -- From the checks and the run to the whole call. Assumes nothing.
-use Rattle.std.specs.Prelude.{◌≡◌, List}
+use Rattle.std.specs.Prelude.{◌≡◌, List, Result, Ok, Err}
 use Rattle.std.proofs.Math.Path.{sym, ap}
 use Rattle.std.proofs.Common.{◌∙◌, arith}
 use Prim.Native.Nat.{ℕ, zero, suc, ◌<◌}
@@ -8,10 +8,7 @@ use Rattle.definition.specs.Call.{Rooms, Outcome, refused_with, refusal, input_o
 use Rattle.sheet_check.specs.AnswerLaws.{positive}
 use Rattle.checks.specs.declared.Refusal.{Refusal}
 use Rattle.checks.specs.declared.Refusal.TheVariants.{Sheet, TooManyEdges, StoreTooSmall}
-use Rattle.checks.specs.declared.Question.{Question}
-use Rattle.checks.specs.declared.Checked.{Checked}
-use Rattle.checks.specs.declared.Checked.TheVariants as checked
-use Rattle.answer.specs.declared.Answer.TheVariants as answer
+use Rattle.checks.specs.declared.question.Question.{Question}
 use Rattle.checks.specs.Answers.{refusal_number, checked_number}
 use Rattle.answer.specs.declared.Report.{Report}
 use Rattle.answer.specs.Answers.{reported, reported_of}
@@ -24,12 +21,12 @@ refusal_positive (Sheet f) = positive f
 refusal_positive TooManyEdges = omega arith
 refusal_positive StoreTooSmall = omega arith
 
-module _ (bs : List ℕ) (bytes : Bytes bs) (limit : ℕ) (x : Checked) (h : Lent) (rooms : Rooms) (same : rooms ≡ rooms_in h) (number : checked_number x ≡ refused_with bs rooms) where
+module _ (bs : List ℕ) (bytes : Bytes bs) (limit : ℕ) (x : Result Question Refusal) (h : Lent) (rooms : Rooms) (same : rooms ≡ rooms_in h) (number : checked_number x ≡ refused_with bs rooms) where
   abbrev o : Outcome
   o = call bs (rooms_in h) limit
 
   -- a refusal
-  module _ {f : Refusal} (e : x ≡ checked.Refused f) where
+  module _ {f : Refusal} (e : x ≡ Err f) where
     refused : refusal_number f ≡ refused_with bs (rooms_in h)
     refused = sym (ap checked_number e) ∙ number ∙ ap (refused_with bs) same
 
@@ -41,12 +38,12 @@ module _ (bs : List ℕ) (bytes : Bytes bs) (limit : ℕ) (x : Checked) (h : Len
         go zero z = absurd (omega (arith, refusal_positive f))
         go (suc k) z = ap refusal z
 
-    pub call_refuses : Planned bs limit h (reported_of (answer.Refused f)) h
+    pub call_refuses : Planned bs limit h (reported_of (Err f)) h
     call_refuses =
-        planned bs bytes limit h (reported_of (answer.Refused f)) h (sym (ap reported call_refused)) (sym (ap (λ (y : Outcome). holds y h) call_refused))
+        planned bs bytes limit h (reported_of (Err f)) h (sym (ap reported call_refused)) (sym (ap (λ (y : Outcome). holds y h) call_refused))
 
   -- an accepted sheet
-  module _ {q : Question} (e : x ≡ checked.Accepted q) where
+  module _ {q : Question} (e : x ≡ Ok q) where
     pub call-accepted : refused_with bs rooms ≡ 0
     call-accepted = sym number ∙ ap checked_number e
 

@@ -1,1 +1,3 @@
 pub mod ReadLaws
+mod PartLaws
+pub mod StandingLaws

@@ -1,18 +1,17 @@
 -- What was read of known bytes. In each law `a` is what is known before a read, and `b` after it. Assumes nothing.
-use Rattle.std.proofs.Common.{◌≡◌, ◌≢◌, ℕ, suc, ◌+◌, ◌-◌, ◌<◌, ◌≤◌, Bool, true, false, not, nat_eq, List, [], ◌∷◌, None, Some, IfSome, length, get_or, take, drop, refl, sym, ap, subst, ◌∙◌, arith}
+use Rattle.std.proofs.Common.{◌≡◌, ℕ, suc, ◌+◌, ◌-◌, ◌<◌, ◌≤◌, Bool, true, false, not, nat_eq, List, [], ◌∷◌, None, Some, IfSome, length, get_or, take, drop, refl, sym, ap, subst, ◌∙◌, arith}
 use Rattle.std.specs.Prelude.{Option}
-use borrow.Author.Tests.{ne_eqb}
 use Rattle.records.specs.Records.{word_at, line_goes_on, after_line, record_in}
-use Rattle.records.specs.RecordLaws.{word_there, word_past}
-use Rattle.definition.specs.Sheet.{word}
-use Rattle.std.proofs.Common.{◌++◌, leb, min, le-leb}
+use Rattle.records.specs.RecordLaws.{word_past}
+use Rattle.records.proofs.PartLaws.{word_of_part}
+use Rattle.reading.specs.Front.{front_of, first_word}
+use Rattle.reading.proofs.FrontLaws.{front_some, front_none}
+use Rattle.std.specs.Int.{w32, from_le_bytes}
+use Rattle.std.proofs.Common.{◌++◌, leb, min, le-leb, take_all}
 use Rattle.std.proofs.lemmas.Bool.{lt-leb}
-use Rattle.std.proofs.lemmas.List.{get_or-take, length-take, take-append-le}
+use borrow.Author.Tests.{leb-true, leb-false}
+use Rattle.std.proofs.lemmas.List.{length-take, take-append-le}
 use Rattle.std.proofs.Math.ListN.{length-drop}
-
-pub on_known : {P Q : List ℕ → Type 0} (a : Option (List ℕ)) → ((bs : List ℕ) → P bs → Q bs) → IfSome a P → IfSome a Q
-on_known None f h = tt
-on_known (Some bs) f h = f bs h
 
 pub on_both : {P Q R : List ℕ → Type 0} (a : Option (List ℕ)) → IfSome a P → IfSome a Q → ((bs : List ℕ) → P bs → Q bs → R bs) → IfSome a R
 on_both None p q f = tt
@@ -32,11 +31,17 @@ goes_on_read [] bs l h = absurd (omega arith)
 goes_on_read (x ∷ xs) [] l h = cc
 goes_on_read (x ∷ xs) (b ∷ bs) l h = let e : x ≡ b = cc in ap (λ (k : ℕ). not (nat_eq k 10)) e
 
+pub goes_on_some : (xs bs : List ℕ) → Some xs ≡ front_of 1 bs → not (nat_eq (get_or xs 0 0) 10) ≡ line_goes_on bs
+goes_on_some xs bs e =
+    let there = front_some 1 bs xs e in
+    let one : length xs ≡ 1 = omega (arith, there, length-take 1 bs, ap length there.1) in
+    goes_on_read xs bs (omega arith) (take_all 1 xs (omega arith) ∙ there.1)
+
 -- no byte was left
-pub none_read : (n : ℕ) (xs bs : List ℕ) → n ≢ 1 → n ≡ length (take n xs) → take n xs ≡ take 1 bs → nat_eq n 1 ≡ line_goes_on bs
+pub goes_on_none : (bs : List ℕ) → None ≡ front_of 1 bs → false ≡ line_goes_on bs
 unfolding line_goes_on
-none_read n xs [] o l h = ne_eqb _ _ o
-none_read n xs (b ∷ bs) o l h = absurd (o (l ∙ ap length h))
+goes_on_none [] e = refl
+goes_on_none (b ∷ bs) e = absurd (omega (arith, front_none 1 (b ∷ bs) e))
 
 -- so many bytes may still be read of the line, and what follows it is what follows the whole line
 abbrev pub Skipped : Option (List ℕ) → Option (List ℕ) → ℕ → ℕ → Type 0
@@ -47,7 +52,8 @@ skipped None n = tt
 skipped (Some bs) n = (bs, refl, refl)
 
 module _ (b c : Option (List ℕ)) (n left : ℕ) (more : Bool) (some : 0 < left) where
-  turned : (cs ds : List ℕ) → more ≡ line_goes_on cs → after_line left cs ≡ ds → (elim more [ true ↦ after_line (left - 1) (drop 1 cs) | false ↦ drop 1 cs ]) ≡ ds
+  turned : (cs ds : List ℕ) → more ≡ line_goes_on cs → after_line left cs ≡ ds
+      → (elim more [ true ↦ after_line (left - 1) (drop 1 cs) | false ↦ drop 1 cs ]) ≡ ds
   unfolding after_line
   turned cs ds m e =
       let one : left ≡ suc (left - 1) = omega arith in
@@ -55,7 +61,8 @@ module _ (b c : Option (List ℕ)) (n left : ℕ) (more : Bool) (some : 0 < left
 
   -- the bytes after a turn, and those that follow the line by the answer of the turn
   turn : (a : Option (List ℕ)) → Skipped a b left n → IfSome b (λ cs. more ≡ line_goes_on cs) → IfSome b (λ cs. c ≡ Some (drop 1 cs))
-      → IfSome a (λ bs. (cs : List ℕ) × (c ≡ Some (drop 1 cs)) × ((elim more [ true ↦ after_line (left - 1) (drop 1 cs) | false ↦ drop 1 cs ]) ≡ after_line n bs))
+      → IfSome a (λ bs. (cs : List ℕ) × (c ≡ Some (drop 1 cs))
+      × ((elim more [ true ↦ after_line (left - 1) (drop 1 cs) | false ↦ drop 1 cs ]) ≡ after_line n bs))
   turn None s m r = tt
   turn (Some bs) s m r =
       let cs = s.0 in (
@@ -64,13 +71,15 @@ module _ (b c : Option (List ℕ)) (n left : ℕ) (more : Bool) (some : 0 < left
         turned cs (after_line n bs) (subst (λ o. IfSome o (λ cs. more ≡ line_goes_on cs)) s.1 m) s.2,
       )
 
-  pub skipped_turn : (a : Option (List ℕ)) → more ≡ true → Skipped a b left n → IfSome b (λ cs. more ≡ line_goes_on cs) → IfSome b (λ cs. c ≡ Some (drop 1 cs)) → Skipped a c (left - 1) n
+  pub skipped_turn : (a : Option (List ℕ)) → more ≡ true → Skipped a b left n → IfSome b (λ cs. more ≡ line_goes_on cs)
+      → IfSome b (λ cs. c ≡ Some (drop 1 cs)) → Skipped a c (left - 1) n
   skipped_turn None t s m r = tt
   skipped_turn (Some bs) t s m r =
       let w = turn (Some bs) s m r in
       (drop 1 w.0, w.1, sym (ap (λ (t : Bool). elim t [ true ↦ after_line (left - 1) (drop 1 w.0) | false ↦ drop 1 w.0 ]) t) ∙ w.2)
 
-  pub skipped_end : (a : Option (List ℕ)) → more ≡ false → Skipped a b left n → IfSome b (λ cs. more ≡ line_goes_on cs) → IfSome b (λ cs. c ≡ Some (drop 1 cs)) → IfSome a (λ bs. c ≡ Some (after_line n bs))
+  pub skipped_end : (a : Option (List ℕ)) → more ≡ false → Skipped a b left n → IfSome b (λ cs. more ≡ line_goes_on cs)
+      → IfSome b (λ cs. c ≡ Some (drop 1 cs)) → IfSome a (λ bs. c ≡ Some (after_line n bs))
   skipped_end None t s m r = tt
   skipped_end (Some bs) t s m r =
       let w = turn (Some bs) s m r in
@@ -84,17 +93,21 @@ skipped_all (Some bs) b n left z s = s.1 ∙ ap (λ (xs : List ℕ). Some xs) (s
 
 -- ---- the record
 
-pub word_read : (n : ℕ) (xs bs : List ℕ) → n ≡ 4 → 4 ≤ length xs → take n xs ≡ take 4 bs → word_at xs 0 ≡ word_at bs 0
-unfolding word
-word_read n xs bs e l h =
-    let front : take 4 xs ≡ take 4 bs = ap (λ (k : ℕ). take k xs) (sym e) ∙ h in
-    let whole : 4 ≤ length bs = omega (arith, length-take 4 xs, length-take 4 bs, ap length front) in
-    let at : (i : ℕ) → i < 4 → get_or xs i 0 ≡ get_or bs i 0 = λ i s. sym (get_or-take 4 xs i 0 s) ∙ ap (λ (l : List ℕ). get_or l i 0) front ∙ get_or-take 4 bs i 0 s in
-    let same : word xs 0 ≡ word bs 0 = omega (arith, at 0 (omega arith), at 1 (omega arith), at 2 (omega arith), at 3 (omega arith)) in
-    word_there xs 0 l ∙ same ∙ sym (word_there bs 0 whole)
+pub word_some : (xs bs : List ℕ) → Some xs ≡ front_of 4 bs → from_le_bytes w32 xs ≡ word_at bs 0
+word_some xs bs e =
+    let there = front_some 4 bs xs e in
+    word_of_part bs xs 0 (omega (arith, there)) there.1
 
-pub word_cut : (n : ℕ) (xs bs : List ℕ) → n < 4 → n ≡ length (take n xs) → take n xs ≡ take 4 bs → 0 ≡ word_at bs 0
-word_cut n xs bs l e h = sym (word_past bs 0 (omega (arith, length-take 4 bs, ap length h)))
+pub word_none : (bs : List ℕ) → None ≡ front_of 4 bs → 0 ≡ word_at bs 0
+word_none bs e = sym (word_past bs 0 (omega (arith, front_none 4 bs e)))
+
+-- the word that is read first is the one at byte 0
+pub first_word_is : (bs : List ℕ) → first_word bs ≡ word_at bs 0
+unfolding first_word
+first_word_is bs = elim (leb 4 (length bs)) as (λ t. leb 4 (length bs) ≡ t → first_word bs ≡ word_at bs 0) [
+  | true ↦ λ q. rw (first_word, q) (word_of_part bs (take 4 bs) 0 (leb-true 4 (length bs) q) refl)
+  | false ↦ λ q. rw (first_word, q) (sym (word_past bs 0 (leb-false 4 (length bs) q)))
+] refl
 
 -- a first word that is not 0 is there
 word_whole : (bs : List ℕ) → 0 < word_at bs 0 → 4 ≤ length bs
@@ -106,7 +119,7 @@ word_whole (a ∷ b ∷ c ∷ []) h = absurd (omega arith)
 word_whole (a ∷ b ∷ c ∷ d ∷ bs) h = omega arith
 
 module _ (room : ℕ) (bs : List ℕ) (w : ℕ) (is : w ≡ word_at bs 0) where
-  pub record_short : w < 4 → [] ≡ record_in room bs
+  pub record_short : w ≤ 4 → [] ≡ record_in room bs
   unfolding record_in
   record_short h =
       let none : word_at bs 0 - 4 ≡ 0 = omega arith in
@@ -129,7 +142,9 @@ module _ (room : ℕ) (bs : List ℕ) (w : ℕ) (is : w ≡ word_at bs 0) where
     pub record_read : 4 ≤ w → w - 4 ≤ room → n ≡ w - 4 → n ≡ length (take n xs) → (ys : List ℕ) → take (w - 4) (xs ++ ys) ≡ record_in room bs
     unfolding record_in
     record_read h fits e l ys =
-        let whole : word_at bs 0 ≤ min (room + 4) (length bs) = omega (arith, length-take k (drop 4 bs), length-drop 4 bs, ap length read, word_whole bs (omega arith)) in
-        let front : take (w - 4) (xs ++ ys) ≡ take n xs = ap (λ (k : ℕ). take k (xs ++ ys)) (sym e) ∙ take-append-le n xs ys (omega (arith, length-take n xs)) in
+        let whole : word_at bs 0 ≤ min (room + 4) (length bs) =
+        omega (arith, length-take k (drop 4 bs), length-drop 4 bs, ap length read, word_whole bs (omega arith)) in
+        let front : take (w - 4) (xs ++ ys) ≡ take n xs =
+        ap (λ (k : ℕ). take k (xs ++ ys)) (sym e) ∙ take-append-le n xs ys (omega (arith, length-take n xs)) in
         let first : take k (drop 4 bs) ≡ take (word_at bs 0 - 4) (drop 4 bs) = ap (λ (k : ℕ). take k (drop 4 bs)) (same ∙ ap (λ (k : ℕ). k - 4) is) in
         front ∙ read ∙ first ∙ sym (rw (le-leb _ _ whole, record_in))

@@ -3,7 +3,7 @@ use Rattle.std.specs.Prelude.{ℕ, ◌+◌, Bool, List, [], ◌∷◌, Float}
 use Rattle.records.specs.Listed.{all_of, longs_listed, words_listed, numbers_listed}
 
 -- an edge has 28 bytes
-unfoldable pub edges_listed : List ℕ → ℕ → ℕ → List ℕ → List ℕ → List ℕ → List ℕ → List ℕ → Bool
+abbrev pub edges_listed : List ℕ → ℕ → ℕ → List ℕ → List ℕ → List ℕ → List ℕ → List ℕ → Bool
 edges_listed bs at n left right predicate source kind =
     all_of
     (longs_listed bs at 28 n left
@@ -14,7 +14,7 @@ edges_listed bs at n left right predicate source kind =
     ∷ [])
 
 -- a plan has 40 bytes
-unfoldable pub plans_listed : List ℕ → ℕ → ℕ → List ℕ → List ℕ → List ℕ → List ℕ → List ℕ → List Float → List Float → Bool
+abbrev pub plans_listed : List ℕ → ℕ → ℕ → List ℕ → List ℕ → List ℕ → List ℕ → List ℕ → List Float → List Float → Bool
 plans_listed bs at n set left right lead kind rows cost =
     all_of
     (longs_listed bs at 40 n set
@@ -27,5 +27,5 @@ plans_listed bs at n set left right lead kind rows cost =
     ∷ [])
 
 -- a memo entry has 12 bytes
-unfoldable pub memo_listed : List ℕ → ℕ → ℕ → List ℕ → List ℕ → Bool
+abbrev pub memo_listed : List ℕ → ℕ → ℕ → List ℕ → List ℕ → Bool
 memo_listed bs at n set plan = all_of (longs_listed bs at 12 n set ∷ words_listed bs (at + 8) 12 n plan ∷ [])

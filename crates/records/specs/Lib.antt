@@ -3,4 +3,5 @@ pub mod RecordLaws
 pub mod Listed
 pub mod ListedLaws
 pub mod Entries
+pub mod PlacesFit
 pub mod Places

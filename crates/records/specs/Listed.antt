@@ -1,5 +1,6 @@
 -- A lent list beside the values that a record has for it. Definitions only.
 use Rattle.std.specs.Prelude.{ℕ, zero, suc, ◌+◌, Bool, true, false, ◌&&◌, List, [], ◌∷◌, eqb, Float, drop}
+use Rattle.std.specs.List.{list_all}
 use Rattle.std.specs.Float.{binary64}
 use Rattle.std.specs.Float.Ieee.{to_bits}
 use Rattle.records.specs.Records.{word_at, long_at}
@@ -13,13 +14,11 @@ begins is at step (suc n) [] = false
 begins is at step (suc n) (x ∷ xs) = is at x && begins is (at + step) step n xs
 
 -- every value of the list passes the test
-unfoldable pub every : {A : Type 0} → (A → Bool) → List A → Bool
-every p [] = true
-every p (x ∷ xs) = p x && every p xs
+abbrev pub every : {A : Type 0} → (A → Bool) → List A → Bool
+every p xs = list_all p xs
 
 -- all tests hold
-unfoldable pub all_of : List Bool → Bool
-unfolding every
+abbrev pub all_of : List Bool → Bool
 all_of bs = every (λ b. b) bs
 
 -- the list has the n recorded values from byte `at` on, one each step bytes, and the pattern behind them
@@ -48,11 +47,11 @@ is_number bs at x = eqb (to_bits binary64 x) (long_at bs at)
 abbrev pub blank_number : Float → Bool
 blank_number x = eqb (to_bits binary64 x) 0xbff8_0000_0000_0000
 
-unfoldable pub longs_listed : List ℕ → ℕ → ℕ → ℕ → List ℕ → Bool
+abbrev pub longs_listed : List ℕ → ℕ → ℕ → ℕ → List ℕ → Bool
 longs_listed bs at step n xs = listed (is_long bs) blank_long at step n xs
 
-unfoldable pub words_listed : List ℕ → ℕ → ℕ → ℕ → List ℕ → Bool
+abbrev pub words_listed : List ℕ → ℕ → ℕ → ℕ → List ℕ → Bool
 words_listed bs at step n xs = listed (is_word bs) blank_word at step n xs
 
-unfoldable pub numbers_listed : List ℕ → ℕ → ℕ → ℕ → List Float → Bool
+abbrev pub numbers_listed : List ℕ → ℕ → ℕ → ℕ → List Float → Bool
 numbers_listed bs at step n xs = listed (is_number bs) blank_number at step n xs

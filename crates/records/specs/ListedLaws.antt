@@ -1,11 +1,11 @@
 -- A loop over a list, place by place, and the definitions of Listed: one law for each turn and each way out, for any type of element.
 -- Assumes nothing.
 use Prim.Native.Nat.{ℕ, zero, suc, ◌+◌, ◌-◌, ◌≤◌, ◌<◌}
-use Rattle.std.specs.Prelude.{Bool, true, false, ◌&&◌, not, List, [], ◌∷◌, ◌≡◌, refl, length, get_or, drop}
+use Rattle.std.specs.Prelude.{Bool, true, false, ◌&&◌, not, List, [], ◌∷◌, ◌≡◌, refl, length, get_or, take, drop}
 use Rattle.std.proofs.lemmas.Bool.{false≢true, not-true, not-false}
 use Rattle.std.proofs.Math.Bool.{and-true, and-false}
 use Rattle.std.proofs.Math.Path.{sym, ap}
-use Rattle.std.proofs.Common.{◌∙◌, drop_of_length-le, add-one}
+use Rattle.std.proofs.Common.{◌∙◌, drop_of_length-le, length-take-le, add-one}
 use Rattle.std.proofs.Math.Seq.{drop-cons}
 use native.Mathlib.Omega.{arith}
 use Rattle.records.specs.Listed.{begins, every, all_of}
@@ -19,6 +19,19 @@ begins_short is at step zero xs h = absurd (omega arith)
 begins_short is at step (suc n) [] h = refl
 begins_short is at step (suc n) (x ∷ xs) h =
     sym (and-false (is at x)) ∙ ap (λ (b : Bool). is at x && b) (begins_short is (at + step) step n xs (omega arith))
+
+-- the first n alone
+begins_take : {A : Type 0} (is : ℕ → A → Bool) (at step n : ℕ) (xs : List A) → begins is at step n (take n xs) ≡ begins is at step n xs
+unfolding begins
+begins_take is at step zero xs = refl
+begins_take is at step (suc n) [] = refl
+begins_take is at step (suc n) (x ∷ xs) = ap (λ (b : Bool). is at x && b) (begins_take is (at + step) step n xs)
+
+pub begins_front : {A : Type 0} (is : ℕ → A → Bool) (at step n : ℕ) (xs front : List A) → n ≤ length xs → front ≡ take n xs
+    → begins is at step (length front) front ≡ begins is at step n xs
+begins_front is at step n xs front h e =
+    let k : length front ≡ n = ap length e ∙ length-take-le n xs h in
+    ap (λ (m : ℕ). begins is at step m front) k ∙ ap (begins is at step n) e ∙ begins_take is at step n xs
 
 module _ {A : Type 0} (is : ℕ → A → Bool) (at step n : ℕ) (xs : List A) where
   -- up to place i all are as recorded: from there on, at byte `here`, the answer is that for the whole
@@ -41,7 +54,8 @@ module _ {A : Type 0} (is : ℕ → A → Bool) (at step n : ℕ) (xs : List A) 
       unfolding begins
       begun_turn t e =
           let left : n - i ≡ suc (n - (i + 1)) = omega arith in
-          let turn : begins is here step (n - i) (drop i xs) ≡ is here (get_or xs i d) && begins is (here + step) step (n - (i + 1)) (drop (i + 1) xs) = rw (left, drop-cons xs i d, add-one) in
+          let turn : begins is here step (n - i) (drop i xs)
+          ≡ is here (get_or xs i d) && begins is (here + step) step (n - (i + 1)) (drop (i + 1) xs) = rw (left, drop-cons xs i d, add-one) in
           ap (λ (u : Bool). u && begins is (here + step) step (n - (i + 1)) (drop (i + 1) xs)) (sym e) ∙ sym turn ∙ b
 
 -- ---- the pattern behind them
@@ -53,12 +67,10 @@ module _ {A : Type 0} (p : A → Bool) (n : ℕ) (xs : List A) where
 
   module _ (i : ℕ) (b : Passed i) where
     pub passed_end : length xs ≤ i → true ≡ every p (drop n xs)
-    unfolding every
     passed_end h = sym (ap (every p) (drop_of_length-le xs h)) ∙ b
 
     module _ (d : A) (l : i < length xs) where
       pub passed_turn : (t : Bool) → p (get_or xs i d) ≡ t → t && every p (drop (i + 1) xs) ≡ every p (drop n xs)
-      unfolding every
       passed_turn t e =
           let turn : every p (drop i xs) ≡ p (get_or xs i d) && every p (drop (i + 1) xs) = rw (drop-cons xs i d, add-one) in
           ap (λ (u : Bool). u && every p (drop (i + 1) xs)) (sym e) ∙ sym turn ∙ b
@@ -73,16 +85,13 @@ first_fails a b r t e = t ∙ ap (λ (x : Bool). x && b) (sym t ∙ e)
 
 -- a test that fails is enough
 pub all_fails : (bs : List Bool) (k : ℕ) (r : Bool) → not r ≡ true → r ≡ get_or bs k true → false ≡ all_of bs
-unfolding every all_of
 all_fails [] k r t e = absurd (false≢true (sym (not-true r t) ∙ e))
 all_fails (b ∷ bs) zero r t e = ap (λ (x : Bool). x && all_of bs) (sym (not-true r t) ∙ e)
 all_fails (b ∷ bs) (suc k) r t e = sym (and-false b) ∙ ap (λ (x : Bool). b && x) (all_fails bs k r t e)
 
 -- the first holds, and the others decide
 pub all_next : (b : Bool) (bs : List Bool) (r s : Bool) → not r ≡ false → r ≡ b → s ≡ all_of bs → s ≡ all_of (b ∷ bs)
-unfolding every all_of
 all_next b bs r s t e f = f ∙ ap (λ (x : Bool). x && all_of bs) (sym (not-false r t) ∙ e)
 
 pub all_last : (b r : Bool) → r ≡ b → r ≡ all_of (b ∷ [])
-unfolding every all_of
 all_last b r e = e ∙ sym (and-true b)

@@ -1,79 +1,65 @@
-// The entries of a call: edges, plans and memo entries, each kind in lists of its own. A record has n entries of it from `at` on.
-ghost use Rattle.std.specs.Prelude.{◌≡◌, ◌≤◌};
+// The entries of a call: edges, plans and memo entries, each kind in lists of its own, beside a record's.
+ghost use Rattle.std.specs.Prelude.{◌≡◌};
 ghost use Rattle.records.specs.Entries.{edges_listed, plans_listed, memo_listed};
 
-use crate::lists;
+use crate::call::Table;
+use crate::lists::same;
 
+// Whether the lists have the edges of a record.
+// kept: shared slices, so that lists lent for reading alone will do.
 pub fn same_edges(
     bytes: &[u8],
-    at: usize,
-    n: usize,
-    eleft: &[u64],
-    eright: &[u64],
-    epredicate: &[u32],
-    esource: &[u32],
-    ekind: &[u32],
+    edges: &Table,
+    left: &[u64],
+    right: &[u64],
+    predicate: &[u32],
+    source: &[u32],
+    kind: &[u32],
 ) -> bool
-    requires { (at ≤ 60000) × (n ≤ 4096) }
-    ensures { result ≡ edges_listed bytes.now at n eleft.now eright.now epredicate.now esource.now ekind.now }
+    ensures { result ≡ edges_listed bytes.now edges.now.at edges.now.count left.now right.now predicate.now source.now kind.now }
 {
-    if !lists::same_longs(eleft, bytes, at, 28, n) {
-        return false;
-    }
-    if !lists::same_longs(eright, bytes, at + 8, 28, n) {
-        return false;
-    }
-    if !lists::same_words(epredicate, bytes, at + 16, 28, n) {
-        return false;
-    }
-    if !lists::same_words(esource, bytes, at + 20, 28, n) {
-        return false;
-    }
-    lists::same_words(ekind, bytes, at + 24, 28, n)
+    let n = edges.count;
+    let at = edges.at;
+    same(left, bytes, at, 28, n)
+        && same(right, bytes, at + 8, 28, n)
+        && same(predicate, bytes, at + 16, 28, n)
+        && same(source, bytes, at + 20, 28, n)
+        && same(kind, bytes, at + 24, 28, n)
 }
 
+// Whether the lists have the plans of a record.
+// kept: as same_edges.
 pub fn same_plans(
     bytes: &[u8],
-    at: usize,
-    n: usize,
-    pset: &[u64],
-    pleft: &[u32],
-    pright: &[u32],
-    plead: &[u32],
-    pkind: &[u32],
-    prows: &[f64],
-    pcost: &[f64],
+    plans: &Table,
+    set: &[u64],
+    left: &[u32],
+    right: &[u32],
+    lead: &[u32],
+    kind: &[u32],
+    rows: &[f64],
+    cost: &[f64],
 ) -> bool
-    requires { (at ≤ 60000) × (n ≤ 4096) }
-    ensures { result ≡ plans_listed bytes.now at n pset.now pleft.now pright.now plead.now pkind.now prows.now pcost.now }
+    ensures { result
+        ≡ plans_listed bytes.now plans.now.at plans.now.count set.now left.now right.now lead.now kind.now rows.now cost.now }
 {
-    if !lists::same_longs(pset, bytes, at, 40, n) {
-        return false;
-    }
-    if !lists::same_words(pleft, bytes, at + 8, 40, n) {
-        return false;
-    }
-    if !lists::same_words(pright, bytes, at + 12, 40, n) {
-        return false;
-    }
-    if !lists::same_words(plead, bytes, at + 16, 40, n) {
-        return false;
-    }
-    if !lists::same_words(pkind, bytes, at + 20, 40, n) {
-        return false;
-    }
-    if !lists::same_numbers(prows, bytes, at + 24, 40, n) {
-        return false;
-    }
-    lists::same_numbers(pcost, bytes, at + 32, 40, n)
+    let n = plans.count;
+    let at = plans.at;
+    same(set, bytes, at, 40, n)
+        && same(left, bytes, at + 8, 40, n)
+        && same(right, bytes, at + 12, 40, n)
+        && same(lead, bytes, at + 16, 40, n)
+        && same(kind, bytes, at + 20, 40, n)
+        && same(rows, bytes, at + 24, 40, n)
+        && same(cost, bytes, at + 32, 40, n)
 }
 
-pub fn same_memo(bytes: &[u8], at: usize, n: usize, mset: &[u64], mplan: &[u32]) -> bool
-    requires { (at ≤ 60000) × (n ≤ 4096) }
-    ensures { result ≡ memo_listed bytes.now at n mset.now mplan.now }
+// Whether the lists have the memo entries of a record.
+// kept: as same_edges.
+pub fn same_memo(bytes: &[u8], memo: &Table, set: &[u64], plan: &[u32]) -> bool
+    ensures { result ≡ memo_listed bytes.now memo.now.at memo.now.count set.now plan.now }
 {
-    if !lists::same_longs(mset, bytes, at, 12, n) {
-        return false;
-    }
-    lists::same_words(mplan, bytes, at + 8, 12, n)
+    let n = memo.count;
+    let at = memo.at;
+    same(set, bytes, at, 12, n) && same(plan, bytes, at + 8, 12, n)
 }

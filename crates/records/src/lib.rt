@@ -5,45 +5,45 @@
 mod call;
 mod entries;
 mod lists;
+mod replays;
 
-ghost use Rattle.std.specs.Prelude.{◌≡◌, ◌+◌, ◌<◌, length, take, drop, IfSome, IfOk, OnOk};
-ghost use Rattle.std.specs.Io.{ReadsAtMost};
+ghost use Rattle.std.specs.Prelude.{◌≡◌, ◌+◌, ◌<◌, ◌≤◌, length, take, drop, unwrap_or, IfSome, MatchOption, IfOk, OnOk};
 ghost use Rattle.records.specs.Records.{word_at, long_at, sheet_of, after_sheet, line_goes_on, after_line, record_in};
 
-pub use call::{Places, limit, list_length, places_in};
+pub use call::{Places, Table, limit, list_length};
 pub use entries::{same_edges, same_memo, same_plans};
-pub use lists::{LONG, NUMBER, WORD};
+pub use lists::{Element, LONG, NUMBER, WORD};
+pub use replays::{Tally, replay};
 use std::io;
 use std::io::Read;
 
+// The N bytes there; none where they go past the end.
+fn part<const N: usize>(bytes: &[u8], at: usize) -> Option<&[u8; N]>
+    ensures { MatchOption result (length bytes.now < at + N) (λ part. (at + N ≤ length bytes.now) × (part.now ≡ take N (drop at bytes.now))) }
+{
+    bytes.get(at..)?.first_chunk()
+}
+
 // The word there, and 0 past the end.
+// kept: 0 past the end: no record has the length 0, so a cut record is found by it.
 pub fn word(bytes: &[u8], at: usize) -> u32
     ensures { result ≡ word_at bytes.now at }
 {
-    let n = bytes.len();
-    if n < 4 {
-        return 0;
+    match part::<4>(bytes, at) {
+        Some(part) => u32::from_le_bytes(*part),
+        None => 0,
     }
-    if n - 4 < at {
-        return 0;
-    }
-    sheet::word(bytes, at)
 }
 
 // The long there, and 0 past the end.
+// kept: as word, of which it differs in a number's length and type, which part::<N> serves.
 pub fn long(bytes: &[u8], at: usize) -> u64
     ensures { result ≡ long_at bytes.now at }
 {
-    let n = bytes.len();
-    if n < 8 {
-        return 0;
+    match part::<8>(bytes, at) {
+        Some(part) => u64::from_le_bytes(*part),
+        None => 0,
     }
-    if n - 8 < at {
-        return 0;
-    }
-    let low = sheet::word(bytes, at);
-    let high = sheet::word(bytes, at + 4);
-    low as u64 + 4294967296 * high as u64
 }
 
 // Reads one byte, and answers whether the line goes on.
@@ -51,83 +51,58 @@ fn goes_on<R: Read>(input: &mut R) -> io::Result<bool>
     ensures value { IfOk result (λ more. IfSome (R.remaining input.old) (λ bs. more ≡ line_goes_on bs)) }
     ensures rest { OnOk result (IfSome (R.remaining input.old) (λ bs. R.remaining input.new ≡ Some (drop 1 bs))) }
 {
-    let mut one = [0u8; 1];
-    let got = reading::read_full(input, &mut one)?;
-    Ok(got == 1 && one[0] != 10)
+    let read: Option<[u8; 1]> = reading::read_array(input)?;
+    Ok(match read {
+        Some(byte) => byte[0] != 10,
+        None => false,
+    })
 }
 
 // Reads the line of text, of at most 4,096 bytes.
 pub fn skip_line<R: Read>(input: &mut R) -> io::Result<()>
     ensures { OnOk result (IfSome (R.remaining input.old) (λ bs. R.remaining input.new ≡ Some (after_line 4096 bs))) }
 {
-    let mut left: u32 = 4096;
-    while left > 0 && goes_on(input)? {
-        left -= 1;
+    for _ in 0..4096u32 {
+        if !goes_on(input)? {
+            break;
+        }
     }
     Ok(())
 }
 
-// The next record's whole length; 0 where the input ends.
-fn next_length<R: Read>(input: &mut R) -> io::Result<u32>
-    ensures value { IfOk result (λ n. IfSome (R.remaining input.old) (λ bs. n ≡ word_at bs 0)) }
-    ensures rest { OnOk result (IfSome (R.remaining input.old) (λ bs. R.remaining input.new ≡ Some (drop 4 bs))) }
+// Reads a record without its first word to the start of buf, and answers how many bytes it has; none where the input ends, or has no whole
+// record that buf has room for, or one with its first word alone.
+// kept: none is an Option's; how many bytes stand in buf is what the caller slices it by.
+pub fn next_record<R: Read>(input: &mut R, buf: &mut [u8]) -> io::Result<Option<usize>>
+    ensures bound { IfOk result (λ r. IfSome r (λ n. (0 < n) × (n ≤ length buf.new))) }
+    ensures value { IfOk result (λ r. IfSome (R.remaining input.old) (λ bs. take (unwrap_or r 0) buf.new ≡ record_in (length buf.old) bs)) }
+    ensures rest { IfOk result (λ r. IfSome r (λ n. IfSome (R.remaining input.old) (λ bs. R.remaining input.new ≡ Some (drop (n + 4) bs)))) }
 {
-    let mut head = [0u8; 4];
-    let got = reading::read_full(input, &mut head)?;
-    if got < 4 {
-        return Ok(0);
-    }
-    Ok(word(&head, 0))
-}
-
-// Reads a record without its first word to the start of buf, and answers how many bytes it has; 0 where the input ends, or has no whole
-// record that buf has room for.
-pub fn next_record<R: Read>(input: &mut R, buf: &mut [u8]) -> io::Result<usize>
-    ensures bound { ReadsAtMost result buf.new }
-    ensures value { IfOk result (λ n. IfSome (R.remaining input.old) (λ bs. take n buf.new ≡ record_in (length buf.old) bs)) }
-    ensures rest { IfOk result (λ n. 0 < n → IfSome (R.remaining input.old) (λ bs. R.remaining input.new ≡ Some (drop (n + 4) bs))) }
-{
-    let length = next_length(input)? as usize;
-    if length < 4 {
-        return Ok(0);
+    let length = reading::read_word(input)? as usize;
+    if length <= 4 {
+        return Ok(None);
     }
     let n = length - 4;
     if buf.len() < n {
-        return Ok(0);
+        return Ok(None);
     }
-    let got = reading::read_full(input, &mut buf[0..n])?;
-    Ok(if got < n { 0 } else { n })
+    let got = reading::read_full(input, &mut buf[..n])?;
+    Ok(if got < n { None } else { Some(n) })
 }
 
 // The sheet of a record, which comes without its first word; no bytes where it has no whole sheet.
+// kept: no bytes are a sheet too, which is refused.
 pub fn sheet_of(bytes: &[u8]) -> &[u8]
     ensures { result.now ≡ sheet_of bytes.now }
 {
-    let n = bytes.len();
-    if n < 4 {
-        return &bytes[0..0];
-    }
-    let size = word(bytes, 0) as usize;
-    if n - 4 < size {
-        return &bytes[0..0];
-    }
-    let end = 4 + size;
-    &bytes[4..end]
+    let end = 4 + word(bytes, 0) as usize;
+    bytes.get(4..end).unwrap_or(&[])
 }
 
 // What follows the sheet of a record and its filling.
 pub fn after_sheet(bytes: &[u8]) -> &[u8]
     ensures { result.now ≡ after_sheet bytes.now }
 {
-    let n = bytes.len();
     let at = 4 + (word(bytes, 0) as usize + 3) / 4 * 4;
-    if n < at {
-        return &bytes[n..n];
-    }
-    &bytes[at..n]
-}
-
-pub fn print_number(rt: &impl Print, before: &[u8], n: u64) -> io::Result<()> {
-    rt.write_all(before)?;
-    rt.print(n)
+    bytes.get(at..).unwrap_or(&[])
 }

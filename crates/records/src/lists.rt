@@ -1,15 +1,75 @@
 // The lent lists: the pattern that they hold before a call, and their entries compared with recorded ones.
-ghost use Rattle.std.specs.Prelude.{◌≡◌, ◌≤◌, drop};
+ghost use Rattle.std.specs.Prelude.{◌≡◌, ℕ, ◌+◌, ◌*◌, ◌≤◌, Bool, List, length, drop};
 ghost use Rattle.std.specs.Float.{binary64};
 ghost use Rattle.std.specs.Float.Ieee.{to_bits};
-ghost use Rattle.records.specs.Listed.{begins, every, is_long, is_word, is_number, blank_long, blank_word, blank_number, longs_listed, words_listed, numbers_listed};
+ghost use Rattle.records.specs.Listed.{begins, every, listed, is_long, is_word, is_number, blank_long, blank_word, blank_number};
 
 // The pattern that the places of a list hold before a call.
+// kept: a pattern of bytes, and no code for anything.
 pub const LONG: u64 = 11936128518282651045;
 
+// kept: as LONG.
 pub const WORD: u32 = 2779096485;
 
 pub const NUMBER: f64 = -1.5;
+
+// A type of value that the lent lists hold.
+pub trait Element {
+    ghost recorded: { List ℕ → ℕ → Self → Bool };
+
+    ghost blank: { Self → Bool };
+
+    // Whether it is the value that a record has from this byte on.
+    fn is_recorded(&self, bytes: &[u8], at: usize) -> bool
+        ensures { result ≡ recorded bytes.now at self.now };
+
+    // Whether it is the pattern.
+    fn is_blank(&self) -> bool
+        ensures { result ≡ blank self.now };
+}
+
+impl Element for u64 {
+    ghost recorded = { is_long };
+
+    ghost blank = { blank_long };
+
+    fn is_recorded(&self, bytes: &[u8], at: usize) -> bool {
+        *self == crate::long(bytes, at)
+    }
+
+    fn is_blank(&self) -> bool {
+        *self == LONG
+    }
+}
+
+impl Element for u32 {
+    ghost recorded = { is_word };
+
+    ghost blank = { blank_word };
+
+    fn is_recorded(&self, bytes: &[u8], at: usize) -> bool {
+        *self == crate::word(bytes, at)
+    }
+
+    fn is_blank(&self) -> bool {
+        *self == WORD
+    }
+}
+
+// By the number's bits.
+impl Element for f64 {
+    ghost recorded = { is_number };
+
+    ghost blank = { blank_number };
+
+    fn is_recorded(&self, bytes: &[u8], at: usize) -> bool {
+        bits(*self) == crate::long(bytes, at)
+    }
+
+    fn is_blank(&self) -> bool {
+        bits(*self) == bits(NUMBER)
+    }
+}
 
 // The bits of a number; for a NaN, which no record has, those of one.
 fn bits(x: f64) -> u64
@@ -23,121 +83,33 @@ fn bits(x: f64) -> u64
 }
 
 // Whether the list begins with the n that are recorded from there on, one each step bytes.
-fn begins_longs(list: &[u64], bytes: &[u8], at: usize, step: usize, n: usize) -> bool
+fn begins<E: Element>(list: &[E], bytes: &[u8], at: usize, step: usize, n: usize) -> bool
     requires { (at ≤ 65536) × (step ≤ 64) × (n ≤ 4096) }
-    ensures { result ≡ begins (is_long bytes.now) at step n list.now }
+    ensures { result ≡ begins (E.recorded bytes.now) at step n list.now }
 {
     if list.len() < n {
         return false;
     }
-    let mut here = at;
-    let mut i: usize = 0;
-    while i < n {
-        if list[i] != crate::long(bytes, here) {
+    let front = &list[..n];
+    for (i, x) in front.iter().enumerate() {
+        if !x.is_recorded(bytes, at + step * i) {
             return false;
         }
-        here += step;
-        i += 1;
-    }
-    true
-}
-
-fn begins_words(list: &[u32], bytes: &[u8], at: usize, step: usize, n: usize) -> bool
-    requires { (at ≤ 65536) × (step ≤ 64) × (n ≤ 4096) }
-    ensures { result ≡ begins (is_word bytes.now) at step n list.now }
-{
-    if list.len() < n {
-        return false;
-    }
-    let mut here = at;
-    let mut i: usize = 0;
-    while i < n {
-        if list[i] != crate::word(bytes, here) {
-            return false;
-        }
-        here += step;
-        i += 1;
-    }
-    true
-}
-
-fn begins_numbers(list: &[f64], bytes: &[u8], at: usize, step: usize, n: usize) -> bool
-    requires { (at ≤ 65536) × (step ≤ 64) × (n ≤ 4096) }
-    ensures { result ≡ begins (is_number bytes.now) at step n list.now }
-{
-    if list.len() < n {
-        return false;
-    }
-    let mut here = at;
-    let mut i: usize = 0;
-    while i < n {
-        if bits(list[i]) != crate::long(bytes, here) {
-            return false;
-        }
-        here += step;
-        i += 1;
     }
     true
 }
 
 // Whether the places from n on have the pattern.
-fn rest_longs(list: &[u64], n: usize) -> bool
-    ensures { result ≡ every blank_long (drop n list.now) }
+fn is_rest<E: Element>(list: &[E], n: usize) -> bool
+    ensures { result ≡ every E.blank (drop n list.now) }
 {
-    let mut i = n;
-    while i < list.len() {
-        if list[i] != LONG {
-            return false;
-        }
-        i += 1;
-    }
-    true
-}
-
-fn rest_words(list: &[u32], n: usize) -> bool
-    ensures { result ≡ every blank_word (drop n list.now) }
-{
-    let mut i = n;
-    while i < list.len() {
-        if list[i] != WORD {
-            return false;
-        }
-        i += 1;
-    }
-    true
-}
-
-fn rest_numbers(list: &[f64], n: usize) -> bool
-    ensures { result ≡ every blank_number (drop n list.now) }
-{
-    let mut i = n;
-    while i < list.len() {
-        if bits(list[i]) != bits(NUMBER) {
-            return false;
-        }
-        i += 1;
-    }
-    true
+    list.iter().skip(n).all(|x| x.is_blank())
 }
 
 // Whether the list has the n that are recorded from there on, one each step bytes, and the pattern behind them.
-pub fn same_longs(list: &[u64], bytes: &[u8], at: usize, step: usize, n: usize) -> bool
+pub fn same<E: Element>(list: &[E], bytes: &[u8], at: usize, step: usize, n: usize) -> bool
     requires { (at ≤ 65536) × (step ≤ 64) × (n ≤ 4096) }
-    ensures { result ≡ longs_listed bytes.now at step n list.now }
+    ensures { result ≡ listed (E.recorded bytes.now) E.blank at step n list.now }
 {
-    begins_longs(list, bytes, at, step, n) && rest_longs(list, n)
-}
-
-pub fn same_words(list: &[u32], bytes: &[u8], at: usize, step: usize, n: usize) -> bool
-    requires { (at ≤ 65536) × (step ≤ 64) × (n ≤ 4096) }
-    ensures { result ≡ words_listed bytes.now at step n list.now }
-{
-    begins_words(list, bytes, at, step, n) && rest_words(list, n)
-}
-
-pub fn same_numbers(list: &[f64], bytes: &[u8], at: usize, step: usize, n: usize) -> bool
-    requires { (at ≤ 65536) × (step ≤ 64) × (n ≤ 4096) }
-    ensures { result ≡ numbers_listed bytes.now at step n list.now }
-{
-    begins_numbers(list, bytes, at, step, n) && rest_numbers(list, n)
+    begins(list, bytes, at, step, n) && is_rest(list, n)
 }

@@ -1,38 +1,36 @@
 -- The ending that a stop and a memo lookup give. Assumes nothing.
-use Rattle.std.specs.Prelude.{◌≡◌, refl, ℕ}
-use Rattle.std.proofs.Math.Option.{Option, none, some}
-use Rattle.std.proofs.Common.{eq-eqb, ne_eqb}
-use Rattle.definition.specs.Answers.{plans_full, memo_full, visits_spent}
+use Rattle.std.specs.Prelude.{◌≡◌, refl, ℕ, Option, None, Some, Err}
+use Rattle.std.proofs.Math.Option as math
+use Rattle.std.proofs.Math.Option.{none, some}
+use Rattle.nodeset.specs.declared.PlanId.{PlanId}
 use Rattle.definition.specs.Search.{ending, chosen_plan}
 use Rattle.definition.proofs.StopLaws.{Stop, goes_on, plans-full, memo_full_lem, visits_spent_lem}
-use Rattle.store.specs.declared.Kept.{Kept}
+use Rattle.store.specs.declared.Stop as declared
+use Rattle.store.specs.declared.Stop.TheVariants as stop
+use Rattle.store.specs.Counts.{stop_with}
 use Rattle.held.specs.MemoHeld.{to_kept}
-use Rattle.search.specs.declared.Ending.TheVariants.{PlansFull, MemoFull, VisitsSpent}
+use Rattle.search.specs.declared.Unplanned.TheVariants.{PlansFull, MemoFull, VisitsSpent}
 use Rattle.search.specs.View.{ending_number, chosen_of, ending_for, ending_of}
 
 -- ---- the ending, one law for each way through `ended`
 
-pub ends_plans : (stop : ℕ) (k : Kept) → stop ≡ plans_full → PlansFull ≡ ending_of stop k
-unfolding ending_of
-ends_plans stop k e = rw (eq-eqb stop plans_full e, ending_of)
+pub ends_plans : (s : Option declared.Stop) (k : Option PlanId) → s ≡ Some stop.PlansFull → Err PlansFull ≡ ending_of s k
+ends_plans s k e = rw e
 
-pub ends_memo : (stop : ℕ) (k : Kept) → stop ≡ memo_full → MemoFull ≡ ending_of stop k
-unfolding ending_of
-ends_memo stop k e = rw e refl
+pub ends_memo : (s : Option declared.Stop) (k : Option PlanId) → s ≡ Some stop.MemoFull → Err MemoFull ≡ ending_of s k
+ends_memo s k e = rw e
 
-pub ends_visits : (stop : ℕ) (k : Kept) → stop ≡ visits_spent → VisitsSpent ≡ ending_of stop k
-unfolding ending_of
-ends_visits stop k e = rw e refl
+pub ends_visits : (s : Option declared.Stop) (k : Option PlanId) → s ≡ Some stop.VisitsSpent → Err VisitsSpent ≡ ending_of s k
+ends_visits s k e = rw e
 
-pub ends_so : (stop : ℕ) (k : Kept) → (stop ≡ plans_full → ⊥) → (stop ≡ memo_full → ⊥) → (stop ≡ visits_spent → ⊥) → ending_for k ≡ ending_of stop k
-unfolding ending_of
-ends_so stop k p m v = rw (ne_eqb stop plans_full p, ne_eqb stop memo_full m, ne_eqb stop visits_spent v, ending_of)
+pub ends_so : (s : Option declared.Stop) (k : Option PlanId) → s ≡ None → ending_for k ≡ ending_of s k
+ends_so s k e = rw e
 
 -- ---- the ending is the definition's
 
-pub ending_is : (stop : ℕ) (o : Option ℕ) → Stop stop
-    → (ending_number (ending_of stop (to_kept o)) ≡ ending stop o) × (chosen_of (ending_of stop (to_kept o)) ≡ chosen_plan stop o)
-unfolding ending_of
+pub ending_is : (stop : ℕ) (o : math.Option ℕ) → Stop stop
+    → (ending_number (ending_of (stop_with stop) (to_kept o)) ≡ ending stop o)
+    × (chosen_of (ending_of (stop_with stop) (to_kept o)) ≡ chosen_plan stop o)
 ending_is stop none (goes_on e) = rw e (refl, refl)
 ending_is stop (some n) (goes_on e) = rw e (refl, refl)
 ending_is stop o (plans-full e) = rw e (refl, refl)

@@ -1,21 +1,20 @@
 -- What the search asks of its caller, and its result in the definition's terms. Definitions only.
-use Rattle.std.specs.Prelude.{◌≡◌, true, false, ℕ, ◌≤◌, eqb}
+use Rattle.std.specs.Prelude.{◌≡◌, ℕ, ◌≤◌, Option, None, Some, Result, Ok, Err}
 use Rattle.nodeset.specs.SubsetLaws.{All}
+use Rattle.nodeset.specs.declared.PlanId.{PlanId}
 use Rattle.definition.specs.Answers.{planned, plans_full, memo_full, visits_spent, no_plan}
 use Rattle.definition.specs.Hypergraph.{none32, Sided}
-use Rattle.definition.specs.EdgeView.{Held}
 use Rattle.definition.specs.Search.{Input, search, complete, ending, chosen_plan}
+use Rattle.store.specs.declared.Stop as declared
+use Rattle.store.specs.declared.Stop.TheVariants as stop
 use Rattle.candidate.specs.Store as store
 use Rattle.candidate.specs.Store.{Given, Lists}
 use Rattle.held.specs.Held.{Roomy}
-use Rattle.store.specs.declared.Kept.{Kept}
-use Rattle.store.specs.declared.Kept.TheVariants.{Plan, Absent}
-use Rattle.search.specs.declared.Ending.{Ending}
-use Rattle.search.specs.declared.Ending.TheVariants.{Planned, NoPlan, PlansFull, MemoFull, VisitsSpent}
+use Rattle.search.specs.declared.Unplanned.{Unplanned}
+use Rattle.search.specs.declared.Unplanned.TheVariants.{NoPlan, PlansFull, MemoFull, VisitsSpent}
 
--- the edges' lists have their places, each edge two sides; the leaves fit a set and both stores, and the lists are as long as their stores
+-- each edge has two sides; the leaves fit a set and both stores, and the lists are as long as their stores
 pub record Ready (g : Given) (h : Lists) (n : ℕ) : Type 0 where
-  pub edges : Held g.n g.left g.right g.predicate
   pub sided : All Sided (store.edges g)
   pub leaves : n ≤ 64
   pub plans : n ≤ g.plan_room
@@ -24,35 +23,34 @@ pub record Ready (g : Given) (h : Lists) (n : ℕ) : Type 0 where
 
 -- ---- the ending
 
-abbrev pub ending_number : Ending → ℕ
-ending_number (Planned p) = planned
-ending_number NoPlan = no_plan
-ending_number PlansFull = plans_full
-ending_number MemoFull = memo_full
-ending_number VisitsSpent = visits_spent
+abbrev pub ending_number : Result PlanId Unplanned → ℕ
+ending_number (Ok p) = planned
+ending_number (Err NoPlan) = no_plan
+ending_number (Err PlansFull) = plans_full
+ending_number (Err MemoFull) = memo_full
+ending_number (Err VisitsSpent) = visits_spent
 
-abbrev pub chosen_of : Ending → ℕ
-chosen_of (Planned p) = p.0
-chosen_of NoPlan = none32
-chosen_of PlansFull = none32
-chosen_of MemoFull = none32
-chosen_of VisitsSpent = none32
+abbrev pub chosen_of : Result PlanId Unplanned → ℕ
+chosen_of (Ok p) = p.0
+chosen_of (Err e) = none32
 
 -- e: the answer's number and the chosen plan of the definition's search
-abbrev pub Ends : Input → Ending → Type 0
+abbrev pub Ends : Input → Result PlanId Unplanned → Type 0
 Ends i e =
     let st = search i in
     (ending_number e ≡ ending st.stop (complete i st)) × (chosen_of e ≡ chosen_plan st.stop (complete i st))
 
 -- where nothing stopped the search, from the plan kept for the set of all leaves
-abbrev pub ending_for : Kept → Ending
-ending_for (Plan p) = Planned p
-ending_for Absent = NoPlan
+abbrev pub ending_for : Option PlanId → Result PlanId Unplanned
+ending_for (Some p) = Ok p
+ending_for None = Err NoPlan
 
--- from the stop's number and that plan
-unfoldable pub ending_of : ℕ → Kept → Ending
-ending_of stop k =
-    elim (eqb stop plans_full) [
-      | true ↦ PlansFull
-      | false ↦ elim (eqb stop memo_full) [ true ↦ MemoFull | false ↦ elim (eqb stop visits_spent) [ true ↦ VisitsSpent | false ↦ ending_for k ] ]
-    ]
+abbrev pub unplanned_of : declared.Stop → Unplanned
+unplanned_of stop.PlansFull = PlansFull
+unplanned_of stop.MemoFull = MemoFull
+unplanned_of stop.VisitsSpent = VisitsSpent
+
+-- from what stopped the search, if anything did, and that plan
+abbrev pub ending_of : Option declared.Stop → Option PlanId → Result PlanId Unplanned
+ending_of (Some s) k = Err (unplanned_of s)
+ending_of None k = ending_for k

@@ -1,7 +1,7 @@
 -- Laws of what the loops leave to do. Assumes nothing.
 use Rattle.std.specs.Prelude.{◌≡◌, refl, Bool, ◌&&◌, ℕ, zero, suc, ◌+◌, ◌-◌, ◌^◌, ◌<◌, ◌≤◌, length, get_or, take, eqb}
-use Rattle.std.proofs.Math.Path.{sym, ap}
-use Rattle.std.proofs.Common.{ap₂, ◌∙◌, inl, inr, add-one, drop-cons, eq-eqb, ne_eqb, eqb-true}
+use Rattle.std.proofs.Math.Path.{sym, ap, subst}
+use Rattle.std.proofs.Common.{ap₂, ◌∙◌, inl, inr, add-one, drop-cons, drop_of_length-le, length-take-le, get_or-take, eq-eqb, ne_eqb, eqb-true}
 use mathlib.Core.List.{List, [], ◌∷◌, ◌++◌, map}
 use Rattle.std.proofs.Math.Bool.{true, false}
 use native.Mathlib.Omega.{arith}
@@ -12,12 +12,12 @@ use Rattle.std.specs.Int.Bits.{bit_and, bit_or}
 use Rattle.std.proofs.lemmas.Bool.{eqb-false}
 use Rattle.nodeset.specs.Sets.{bit, singleton, disjoint}
 use Rattle.nodeset.specs.SetLaws.{Apart, bit-lt, bit-and, bit_one, bit_one_cases, bit_empty, singleton_is, apart_disjoint}
-use Rattle.definition.specs.Lists.{tabulate, member, concat_map}
-use Rattle.definition.proofs.ListLaws.{tabulate-at, tabulate_end}
+use Rattle.definition.specs.Lists.{member, concat_map}
 use Rattle.definition.specs.Question.{Range, Predicate, part, predicate, open_question}
 use Rattle.definition.specs.Sheet.{question_of}
 use Rattle.definition.specs.Edges.{holder, holders, side_set}
-use Rattle.ses.specs.View.{Fits, columns_of}
+use Rattle.sheet.specs.declared.Range as range
+use Rattle.ses.specs.View.{columns_at, leaves_of, leaf_range, Fit, Fits, columns_of}
 
 -- ---- the part of a list that is left from place i of a range on
 
@@ -57,13 +57,15 @@ member_none c xs e = sym (ap (member c) e)
 
 -- ---- the leaves of a side
 
-pub fits_fewer : (sheet : List ℕ) (n m : ℕ) (first count : List ℕ) → m ≤ n → Fits sheet n first count → Fits sheet m first count
-fits_fewer sheet n m first count h f =
+pub fits_fewer : (sheet : List ℕ) (leaves : List range.Range) (m : ℕ) → m ≤ length leaves → Fits sheet leaves → Fits sheet (take m leaves)
+fits_fewer sheet leaves m h f =
+    let few = length-take-le m leaves h in
     record {
-      few = omega (arith, f.few);
-      firsts = omega (arith, f.firsts);
-      counts = omega (arith, f.counts);
-      inside = λ k l. f.inside k (omega arith);
+      few = omega (arith, f.few, few);
+      inside = λ k l.
+          let below : k < m = omega (arith, few) in
+          subst (λ (r : range.Range). Fit sheet r.first r.count)
+          (sym (get_or-take m leaves k (record { first = 0; count = 0 }) below)) (f.inside k (omega arith));
     }
 
 in_side : (s k : ℕ) → k < 64 → (disjoint (singleton k) s ≡ false) → bit s k ≡ 1
@@ -88,29 +90,40 @@ not_held s k m h e = rw (out_of_side s k h e)
 pub held_by : (s k : ℕ) {m : Bool} → k < 64 → disjoint (singleton k) s ≡ false → m ≡ (eqb (bit s k) 1 && m)
 held_by s k h e = rw (in_side s k h e)
 
+-- ---- a leaf's columns, by its range
+
+module _ (sheet : List ℕ) (leaves : List range.Range) where
+  pub length_leaves : length (leaves_of sheet leaves) ≡ length leaves
+  length_leaves = length-map leaves (λ (r : range.Range). columns_at sheet r.first r.count)
+
+  pub leaf_columns : (k : ℕ) → k < length leaves
+      → get_or (leaves_of sheet leaves) k [] ≡ columns_at sheet (leaf_range leaves k).first (leaf_range leaves k).count
+  leaf_columns k h = get_or-map (λ (r : range.Range). columns_at sheet r.first r.count) leaves k (record { first = 0; count = 0 })
+
 -- ---- the lowest leaf with a column, from leaf k on
 
-module _ (n : ℕ) (f : ℕ → List ℕ) (s c k : ℕ) where
+module _ (ls : List (List ℕ)) (s c k : ℕ) where
   abbrev from_k : List (List ℕ)
-  from_k = drop k (tabulate n f)
+  from_k = drop k ls
 
-  next : k < n → holder k from_k s c ≡ elim (eqb (bit s k) 1 && member c (f k)) [ true ↦ singleton k | false ↦ holder (k + 1) (drop (k + 1) (tabulate n f)) s c ]
+  abbrev held_here : Bool
+  held_here = eqb (bit s k) 1 && member c (get_or ls k [])
+
+  next : k < length ls → holder k from_k s c ≡ elim held_here [ true ↦ singleton k | false ↦ holder (k + 1) (drop (k + 1) ls) s c ]
   unfolding holder
   next h =
-      ap (λ (l : List (List ℕ)). holder k l s c) (tabulate-at n f k h)
-      ∙ ap (λ (j : ℕ). elim (eqb (bit s k) 1 && member c (f k)) [ true ↦ singleton k | false ↦ holder j (drop j (tabulate n f)) s c ]) (sym (add-one k))
+      ap (λ (l : List (List ℕ)). holder k l s c) (drop-cons ls k [] h)
+      ∙ ap (λ (j : ℕ). elim held_here [ true ↦ singleton k | false ↦ holder j (drop j ls) s c ]) (sym (add-one k))
 
-  pub holder_hit : k < n → true ≡ (eqb (bit s k) 1 && member c (f k)) → singleton k ≡ holder k from_k s c
+  pub holder_hit : k < length ls → true ≡ held_here → singleton k ≡ holder k from_k s c
   holder_hit h m = sym (next h ∙ rw (sym m))
 
-  pub holder_miss : k < n → false ≡ (eqb (bit s k) 1 && member c (f k)) → holder (k + 1) (drop (k + 1) (tabulate n f)) s c ≡ holder k from_k s c
+  pub holder_miss : k < length ls → false ≡ held_here → holder (k + 1) (drop (k + 1) ls) s c ≡ holder k from_k s c
   holder_miss h m = sym (next h ∙ rw (sym m))
 
-  pub holder_none : n ≤ k → k ≤ n → 0 ≡ holder k from_k s c
+  pub holder_none : length ls ≤ k → 0 ≡ holder k from_k s c
   unfolding holder
-  holder_none h g =
-      let e : k ≡ n = omega arith in
-      sym (ap (λ (l : List (List ℕ)). holder k l s c) (ap (λ (j : ℕ). drop j (tabulate n f)) e ∙ tabulate_end n f))
+  holder_none h = sym (ap (λ (l : List (List ℕ)). holder k l s c) (drop_of_length-le ls h))
 
 -- ---- columns one by one, predicates one by one
 
@@ -138,7 +151,8 @@ columns_start sheet first count =
     ap (concat_map (λ (p : Range). part p (question_of sheet).columns)) (rest-start first count (open_question (question_of sheet)).predicates)
 
 pub columns_step : (sheet : List ℕ) (first count i : ℕ) → i < count → first + count ≤ length (question_of sheet).predicates
-    → columns_from sheet first count i ≡ part (predicate (question_of sheet) (first + i)).range (question_of sheet).columns ++ columns_from sheet first count (i + 1)
+    → columns_from sheet first count i
+    ≡ part (predicate (question_of sheet) (first + i)).range (question_of sheet).columns ++ columns_from sheet first count (i + 1)
 unfolding concat_map
 columns_step sheet first count i h k =
     let q = question_of sheet in

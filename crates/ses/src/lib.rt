@@ -1,113 +1,96 @@
-// ses_for_predicate of hypergraph.rs: a side's syntactic eligibility set, the leaves that a join's columns name in it. The leaves' columns are
-// ranges of the sheet's columns: leaf k's are at place k of two lists.
+// ses_for_predicate of hypergraph.rs: a side's syntactic eligibility set, the leaves that a join's columns name in it. Each leaf so far is a
+// range of the sheet's columns; leaf k's is at place k.
 #![tactic(auto)]
 
-ghost use Rattle.std.specs.Prelude.{◌≡◌, ◌&&◌, ◌+◌, eqb, get_or};
+ghost use Rattle.std.specs.Prelude.{◌≡◌, ◌&&◌, [], ◌<◌, length, get_or, eqb};
 ghost use Rattle.nodeset.specs.Sets.{bit};
 ghost use Rattle.definition.specs.Lists.{member};
 ghost use Rattle.definition.specs.Question.{part};
 ghost use Rattle.definition.specs.Sheet.{question_of};
 ghost use Rattle.definition.specs.Edges.{holder, holders, side_set};
-ghost use Rattle.sheet.specs.Views.{range_of, Placed};
+ghost use Rattle.sheet.specs.Views.{range_of};
 ghost use Rattle.ses.specs.View.{columns_at, leaves_of, columns_of, Fit, Fits, Named};
 
 use nodeset::{NodeId, PredicateId};
-use sheet::{Range, Sections};
+use sheet::{Range, Sheet};
 
 // Whether c is among the columns of the range r.
-fn has_column(sheet: &[u8], s: Sections, r: Range, c: u32) -> bool
-    requires { Placed sheet.now s × Fit sheet.now r.first r.count }
-    ensures { result ≡ member c (part (range_of r) (question_of sheet.now).columns) }
+fn has_column(sheet: &Sheet<'_>, r: Range, c: u32) -> bool
+    requires { Fit sheet.now.bytes.now r.first r.count }
+    ensures { result ≡ member c (columns_at sheet.now.bytes.now r.first r.count) }
 {
     let first = r.first as usize;
-    let count = r.count as usize;
-    let mut i: usize = 0;
-    while i < count {
-        if sheet::column(sheet, s, first + i) == c {
+    for i in 0..r.count as usize {
+        if sheet.column(first + i) == c {
             return true;
         }
-        i += 1;
     }
     false
 }
 
-// Whether leaf k is in the side and has the column c.
-fn holds(sheet: &[u8], s: Sections, first: &[u32], count: &[u32], k: u32, side: u64, c: u32) -> bool
-    requires { Placed sheet.now s × Fits sheet.now (k + 1) first.now count.now }
-    ensures { result ≡ (eqb (bit side k) 1 && member c (columns_at sheet.now (get_or first.now k 0) (get_or count.now k 0))) }
-{
-    if nodeset::is_disjoint(nodeset::nodeset_singleton(NodeId(k)), side) {
-        return false;
-    }
-    let i = k as usize;
-    let r = Range {
-        first: first[i],
-        count: count[i],
-    };
-    has_column(sheet, s, r, c)
+// A side of a join: the leaves so far, each with the range of its columns, and the set of those that are in the side.
+#[derive(Clone, Copy)]
+struct Side<'a> {
+    sheet: Sheet<'a>,
+    leaves: &'a [Range],
+    set: u64,
+    ghost fits: { Fits sheet.bytes.now leaves.now },
 }
 
-// The lowest of the n leaves that is in the side and has the column c, as a set.
-fn holder(sheet: &[u8], s: Sections, first: &[u32], count: &[u32], n: u32, side: u64, c: u32) -> u64
-    requires { Placed sheet.now s × Fits sheet.now n first.now count.now }
-    ensures { result ≡ holder 0 (leaves_of sheet.now n first.now count.now) side c }
-{
-    let mut k: u32 = 0;
-    while k < n {
-        if holds(sheet, s, first, count, k, side, c) {
-            return nodeset::nodeset_singleton(NodeId(k));
+impl Side<'_> {
+    // Whether leaf k is in the side and has the column c.
+    fn holds(&self, k: usize, c: u32) -> bool
+        requires { k < length self.now.leaves.now }
+        ensures { result ≡ (eqb (bit self.now.set k) 1 && member c (get_or (leaves_of self.now.sheet.bytes.now self.now.leaves.now) k [])) }
+    {
+        if nodeset::is_disjoint(nodeset::nodeset_singleton(NodeId(k as u32)), self.set) {
+            return false;
         }
-        k += 1;
+        has_column(&self.sheet, self.leaves[k], c)
     }
-    0
-}
 
-// t with the holder of each column of the range r.
-fn with_holders(
-    sheet: &[u8],
-    s: Sections,
-    first: &[u32],
-    count: &[u32],
-    n: u32,
-    side: u64,
-    r: Range,
-    t: u64,
-) -> u64
-    requires { Placed sheet.now s × Fits sheet.now n first.now count.now × Fit sheet.now r.first r.count }
-    ensures { result ≡ holders (leaves_of sheet.now n first.now count.now) side (part (range_of r) (question_of sheet.now).columns) t }
-{
-    let from = r.first as usize;
-    let many = r.count as usize;
-    let mut u = t;
-    let mut i: usize = 0;
-    while i < many {
-        let c = sheet::column(sheet, s, from + i);
-        u = u | holder(sheet, s, first, count, n, side, c);
-        i += 1;
+    // The lowest of the leaves that is in the side and has the column c, as a set.
+    fn holder(&self, c: u32) -> u64
+        ensures { result ≡ holder 0 (leaves_of self.now.sheet.bytes.now self.now.leaves.now) self.now.set c }
+    {
+        for k in 0..self.leaves.len() {
+            if self.holds(k, c) {
+                return nodeset::nodeset_singleton(NodeId(k as u32));
+            }
+        }
+        0
     }
-    u
+
+    // t with the holder of each column of the range r.
+    fn with_holders(&self, r: Range, t: u64) -> u64
+        requires { Fit self.now.sheet.bytes.now r.first r.count }
+        ensures { result ≡ holders (leaves_of self.now.sheet.bytes.now self.now.leaves.now) self.now.set
+            (part (range_of r) (question_of self.now.sheet.bytes.now).columns) t }
+    {
+        let first = r.first as usize;
+        let mut u = t;
+        for i in 0..r.count as usize {
+            let c = self.sheet.column(first + i);
+            u |= self.holder(c);
+        }
+        u
+    }
 }
 
 // The leaves of a side that the predicates of the range p name; the whole side where there are none.
-pub fn side_set(
-    sheet: &[u8],
-    s: Sections,
-    first: &[u32],
-    count: &[u32],
-    n: u32,
-    side: u64,
-    p: Range,
-) -> u64
-    requires { Placed sheet.now s × Fits sheet.now n first.now count.now × Named sheet.now p.first p.count }
-    ensures { result ≡ side_set (leaves_of sheet.now n first.now count.now) side (columns_of sheet.now (range_of p)) }
+pub fn side_set(sheet: &Sheet<'_>, leaves: &[Range], side: u64, p: Range) -> u64
+    requires { Fits sheet.now.bytes.now leaves.now × Named sheet.now.bytes.now p.first p.count }
+    ensures { result ≡ side_set (leaves_of sheet.now.bytes.now leaves.now) side (columns_of sheet.now.bytes.now (range_of p)) }
 {
-    let many = p.count;
+    let s = Side {
+        sheet: *sheet,
+        leaves,
+        set: side,
+    };
     let mut u: u64 = 0;
-    let mut i: u32 = 0;
-    while i < many {
-        let r = sheet::predicate_range(sheet, s, PredicateId(p.first + i));
-        u = with_holders(sheet, s, first, count, n, side, r, u);
-        i += 1;
+    for i in 0..p.count {
+        let r = sheet.predicate_range(PredicateId(p.first + i));
+        u = s.with_holders(r, u);
     }
     if u == 0 { side } else { u }
 }

@@ -1,12 +1,11 @@
 // The question sheet: where its sections stand, and the readers of its fields. Nothing is copied; a sheet stays where the caller has it.
 #![tactic(auto)]
 
+ghost use Rattle.sheet.specs.Views.{Placed};
+
 mod read;
 
-pub use read::{
-    column, is_walk, item_kind, item_range, item_rows, leaf_count, predicate_range,
-    predicate_selectivity, sections_of, word,
-};
+pub use read::{sections_of, word};
 
 // Where a table starts, in bytes, and how many entries it has.
 #[derive(Clone, Copy)]
@@ -25,8 +24,16 @@ pub struct Sections {
 }
 
 // Entries first to first + count - 1 of a table.
-#[derive(Clone, Copy)]
+#[derive(Clone, Copy, Default)]
 pub struct Range {
     pub first: u32,
     pub count: u32,
+}
+
+// The bytes of a sheet whose header has passed, and where its sections stand.
+#[derive(Clone, Copy)]
+pub struct Sheet<'a> {
+    pub bytes: &'a [u8],
+    pub sections: Sections,
+    pub ghost placed: { Placed bytes.now sections },
 }

@@ -2,27 +2,17 @@
 ghost use Rattle.std.specs.Prelude.{◌≡◌, ◌+◌, ◌*◌, ◌<◌, ◌≤◌, length, get_or};
 ghost use Rattle.definition.specs.Question.{item, predicate, open_question, leaf_count, ends_with_one, is_walk};
 ghost use Rattle.definition.specs.Sheet.{word, range, question_of};
-ghost use Rattle.sheet.specs.Views.{range_of, sections_of, Placed};
+ghost use Rattle.sheet.specs.Views.{range_of, sections_of};
 
-use crate::{Range, Section, Sections};
+use crate::{Range, Section, Sections, Sheet};
 use nodeset::PredicateId;
-
-fn wide(x: u8) -> u32
-    ensures { (result ≡ x) × (result < 256) }
-{
-    x as u32
-}
 
 // The word whose four bytes start at `at`, the lowest first.
 pub fn word(sheet: &[u8], at: usize) -> u32
     requires { at + 4 ≤ length sheet.now }
     ensures { result ≡ word sheet.now at }
 {
-    let a = wide(sheet[at]);
-    let b = wide(sheet[at + 1]);
-    let c = wide(sheet[at + 2]);
-    let d = wide(sheet[at + 3]);
-    a + 256 * b + 65536 * c + 16777216 * d
+    u32::from_le_bytes([sheet[at], sheet[at + 1], sheet[at + 2], sheet[at + 3]])
 }
 
 fn range(sheet: &[u8], at: usize) -> Range
@@ -59,107 +49,114 @@ pub fn sections_of(sheet: &[u8]) -> Sections
     }
 }
 
-// The first byte of item i.
-fn item_start(s: Sections, i: usize) -> usize
-    requires { (s.items.offset ≡ 24) × (s.stride ≡ 16) × (i < 127) }
-    ensures { result ≡ 24 + 16 * i }
-{
-    s.items.offset + s.stride * i
-}
-
-pub fn item_kind(sheet: &[u8], s: Sections, i: usize) -> u32
-    requires { Placed sheet.now s × (i < s.items.count) }
-    ensures { result ≡ (item (question_of sheet.now) i).kind }
-{
-    let at = item_start(s, i);
-    word(sheet, at)
-}
-
-// Of an item that is no leaf, the word that should be 0.
-pub fn item_rows(sheet: &[u8], s: Sections, i: usize) -> u64
-    requires { Placed sheet.now s × (i < s.items.count) }
-    ensures { (result ≡ (item (question_of sheet.now) i).rows) × (result ≤ 281474976710656) }
-{
-    let at = item_start(s, i);
-    word(sheet, at + 4) as u64
-}
-
-// A leaf's range of columns, or a join's of predicates: an item's last two words.
-pub fn item_range(sheet: &[u8], s: Sections, i: usize) -> Range
-    requires { Placed sheet.now s × (i < s.items.count) }
-    ensures { range_of result ≡ (item (question_of sheet.now) i).range }
-{
-    let at = item_start(s, i);
-    range(sheet, at + s.stride - 8)
-}
-
-pub fn predicate_selectivity(sheet: &[u8], s: Sections, p: PredicateId) -> u32
-    requires { Placed sheet.now s × (p.0 < s.predicates.count) }
-    ensures { result ≡ (predicate (question_of sheet.now) p.0).selectivity }
-{
-    let i = p.0 as usize;
-    word(sheet, s.predicates.offset + 12 * i)
-}
-
-pub fn predicate_range(sheet: &[u8], s: Sections, p: PredicateId) -> Range
-    requires { Placed sheet.now s × (p.0 < s.predicates.count) }
-    ensures { range_of result ≡ (predicate (question_of sheet.now) p.0).range }
-{
-    let i = p.0 as usize;
-    range(sheet, s.predicates.offset + 12 * i + 4)
-}
-
-pub fn column(sheet: &[u8], s: Sections, i: usize) -> u32
-    requires { Placed sheet.now s × (i < s.columns.count) }
-    ensures { result ≡ get_or (question_of sheet.now).columns i 0 }
-{
-    word(sheet, s.columns.offset + 4 * i)
-}
-
-pub fn leaf_count(sheet: &[u8], s: Sections) -> u32
-    requires { Placed sheet.now s }
-    ensures { result ≡ leaf_count (open_question (question_of sheet.now)).items }
-{
-    let n = s.items.count;
-    let mut leaves = 0;
-    let mut i = 0;
-    while i < n {
-        if item_kind(sheet, s, i) == 9 {
-            leaves += 1;
-        }
-        i += 1;
+impl Sheet<'_> {
+    // The first byte of item i.
+    // kept: each reader of an item asks that there is one; an item as a struct would be made for each call and read once.
+    fn item_start(&self, i: usize) -> usize
+        requires { i < self.now.sections.items.count }
+        ensures { result ≡ 24 + 16 * i }
+    {
+        self.sections.items.offset + self.sections.stride * i
     }
-    leaves
-}
 
-// Leaves and joins, with their number on the pile: one remains at the end.
-fn ends_with_one(sheet: &[u8], s: Sections) -> bool
-    requires { Placed sheet.now s }
-    ensures { result ≡ ends_with_one (open_question (question_of sheet.now)).items 0 }
-{
-    let n = s.items.count;
-    let mut height: usize = 0;
-    let mut i = 0;
-    while i < n {
-        if item_kind(sheet, s, i) == 9 {
-            height += 1;
-        } else {
-            if height < 2 {
-                return false;
+    // The kind of item i.
+    // kept: a kind is a number: a sheet may hold any until it is checked, and the lent lists hold it as one.
+    pub fn item_kind(&self, i: usize) -> u32
+        requires { i < self.now.sections.items.count }
+        ensures { result ≡ (item (question_of self.now.bytes.now) i).kind }
+    {
+        let at = self.item_start(i);
+        word(self.bytes, at)
+    }
+
+    // Of an item that is no leaf, the word that should be 0.
+    // kept: it asks that there is such an item, as said at item_start.
+    pub fn item_rows(&self, i: usize) -> u64
+        requires { i < self.now.sections.items.count }
+        ensures { (result ≡ (item (question_of self.now.bytes.now) i).rows) × (result ≤ 281474976710656) }
+    {
+        let at = self.item_start(i);
+        u64::from(word(self.bytes, at + 4))
+    }
+
+    // A leaf's range of columns, or a join's of predicates: an item's last two words.
+    // kept: it asks that there is such an item, as said at item_start.
+    pub fn item_range(&self, i: usize) -> Range
+        requires { i < self.now.sections.items.count }
+        ensures { range_of result ≡ (item (question_of self.now.bytes.now) i).range }
+    {
+        let at = self.item_start(i);
+        range(self.bytes, at + self.sections.stride - 8)
+    }
+
+    // The part of row pairs that predicate p keeps, in 65,536ths.
+    // kept: beside predicate_range, as said there.
+    pub fn predicate_selectivity(&self, p: PredicateId) -> u32
+        requires { p.0 < self.now.sections.predicates.count }
+        ensures { result ≡ (predicate (question_of self.now.bytes.now) p.0).selectivity }
+    {
+        let i = p.0 as usize;
+        word(self.bytes, self.sections.predicates.offset + 12 * i)
+    }
+
+    // The range of columns that predicate p names.
+    // kept: beside predicate_selectivity, since the two fields are of different types.
+    pub fn predicate_range(&self, p: PredicateId) -> Range
+        requires { p.0 < self.now.sections.predicates.count }
+        ensures { range_of result ≡ (predicate (question_of self.now.bytes.now) p.0).range }
+    {
+        let i = p.0 as usize;
+        range(self.bytes, self.sections.predicates.offset + 12 * i + 4)
+    }
+
+    // Column i.
+    pub fn column(&self, i: usize) -> u32
+        requires { i < self.now.sections.columns.count }
+        ensures { result ≡ get_or (question_of self.now.bytes.now).columns i 0 }
+    {
+        word(self.bytes, self.sections.columns.offset + 4 * i)
+    }
+
+    // How many items are leaves.
+    // kept: a kind is a number: a sheet may hold any until it is checked, and the lent lists hold it as one.
+    pub fn leaf_count(&self) -> u32
+        ensures { result ≡ leaf_count (open_question (question_of self.now.bytes.now)).items }
+    {
+        let mut leaves = 0;
+        for i in 0..self.sections.items.count {
+            if self.item_kind(i) == 9 {
+                leaves += 1;
             }
-            height -= 1;
         }
-        i += 1;
+        leaves
     }
-    height == 1
-}
 
-pub fn is_walk(sheet: &[u8], s: Sections) -> bool
-    requires { Placed sheet.now s }
-    ensures { result ≡ is_walk (open_question (question_of sheet.now)).items }
-{
-    if s.items.count == 0 {
-        return true;
+    // Leaves and joins, with their number on the pile: one remains at the end.
+    // kept: a kind is a number: a sheet may hold any until it is checked, and the lent lists hold it as one.
+    fn ends_with_one(&self) -> bool
+        ensures { result ≡ ends_with_one (open_question (question_of self.now.bytes.now)).items 0 }
+    {
+        let mut height: usize = 0;
+        for i in 0..self.sections.items.count {
+            if self.item_kind(i) == 9 {
+                height += 1;
+            } else {
+                if height < 2 {
+                    return false;
+                }
+                height -= 1;
+            }
+        }
+        height == 1
     }
-    ends_with_one(sheet, s)
+
+    // Whether the items are a walk; no items are one.
+    pub fn is_walk(&self) -> bool
+        ensures { result ≡ is_walk (open_question (question_of self.now.bytes.now)).items }
+    {
+        if self.sections.items.count == 0 {
+            return true;
+        }
+        self.ends_with_one()
+    }
 }

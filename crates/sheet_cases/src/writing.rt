@@ -1,168 +1,131 @@
-// Sheets written into a lent buffer. Each writer answers where the next word goes; what has no room is left out.
-ghost use Rattle.std.specs.Prelude.{◌≤◌};
-
-use sheet_check::SheetAnswer;
+// Sheets as the cases write them, and what the check answers for each.
 use std::io;
 
-fn byte(buf: &mut [u8], at: usize, b: u8) -> usize {
-    if at < buf.len() {
-        buf[at] = b;
-        return at + 1;
+// A sheet while it is written: its words come one after the other, and the bytes behind them are 0.
+#[derive(Drop)]
+struct Draft {
+    bytes: [u8; 65536],
+    at: usize,
+}
+
+impl Draft {
+    fn new() -> Draft {
+        Draft {
+            bytes: [0; 65536],
+            at: 0,
+        }
     }
-    at
-}
 
-fn word(buf: &mut [u8], at: usize, w: u32) -> usize {
-    let b = byte(buf, at, (w % 256) as u8);
-    let c = byte(buf, b, (w / 256 % 256) as u8);
-    let d = byte(buf, c, (w / 65536 % 256) as u8);
-    byte(buf, d, (w / 16777216 % 256) as u8)
-}
-
-fn zeros(buf: &mut [u8], at: usize, n: u32) -> usize {
-    let mut next = at;
-    let mut i = 0;
-    while i < n {
-        next = word(buf, next, 0);
-        i += 1;
+    // The next words; what has no room is left out.
+    fn words(&mut self, words: &[u32]) {
+        for w in words {
+            for b in w.to_le_bytes() {
+                if self.at < 65536 {
+                    self.bytes[self.at] = b;
+                    self.at += 1;
+                }
+            }
+        }
     }
-    next
-}
 
-// So many items of a kind, the other words 0.
-fn items(buf: &mut [u8], at: usize, n: u32, kind: u32) -> usize {
-    let mut next = at;
-    let mut i = 0;
-    while i < n {
-        let rest = word(buf, next, kind);
-        next = zeros(buf, rest, 3);
-        i += 1;
+    // So many words of 0.
+    fn zeros(&mut self, n: u32) {
+        for _ in 0..n {
+            self.words(&[0]);
+        }
     }
-    next
+
+    // So many items of a kind, the other words 0.
+    // kept: the kind is a number, as the sheet has it; some cases write kinds that there are not.
+    fn items(&mut self, n: u16, kind: u32) {
+        for _ in 0..n {
+            self.words(&[kind, 0, 0, 0]);
+        }
+    }
+
+    // The words at these bytes replaced.
+    fn replace(&mut self, words: &[(usize, u32)]) {
+        for (at, w) in words {
+            self.at = *at;
+            self.words(&[*w]);
+        }
+    }
+
+    // Checks the first bytes and prints the answer under a name, 0 for an accepted sheet.
+    // kept: the answer's number is what is printed.
+    fn show(&self, rt: &impl Print, name: &[u8], length: usize) -> io::Result<()> {
+        if 65536 < length {
+            return Ok(());
+        }
+        let answer = sheet_check::answer_number(sheet_check::check(&self.bytes[..length]));
+        rt.write_all(name)?;
+        println!(rt; ": {answer}")
+    }
 }
 
-// Leaves, then cross products; predicates and columns of zeros. Answers the sheet's length.
-fn uniform(buf: &mut [u8], leaves: u32, joins: u32, predicates: u32, columns: u32) -> usize
-    requires { (leaves ≤ 9999) × (joins ≤ 9999) × (predicates ≤ 9999) × (columns ≤ 9999) }
-{
-    let all = leaves + joins;
-    let a = pair(buf, 0, all, 24);
-    let b = pair(buf, a, predicates, 24 + 16 * all);
-    let c = pair(buf, b, columns, 24 + 16 * all + 12 * predicates);
-    let d = items(buf, c, leaves, 9);
-    let e = items(buf, d, joins, 8);
-    zeros(buf, e, 3 * predicates + columns)
-}
-
-fn pair(buf: &mut [u8], at: usize, first: u32, second: u32) -> usize {
-    let b = word(buf, at, first);
-    word(buf, b, second)
-}
-
-fn four(buf: &mut [u8], at: usize, a: u32, b: u32, c: u32, d: u32) -> usize {
-    let next = pair(buf, at, a, b);
-    pair(buf, next, c, d)
+// Leaves, then cross products; predicates and columns of zeros.
+fn uniform(leaves: u16, joins: u16, predicates: u16, columns: u16) -> Draft {
+    let all = u32::from(leaves) + u32::from(joins);
+    let predicates = u32::from(predicates);
+    let columns = u32::from(columns);
+    let second = 24 + 16 * all;
+    let third = second + 12 * predicates;
+    let mut draft = Draft::new();
+    draft.words(&[all, 24, predicates, second, columns, third]);
+    draft.items(leaves, 9);
+    draft.items(joins, 8);
+    draft.zeros(3 * predicates + columns);
+    draft
 }
 
 // Two leaves and their Inner join, one predicate, four columns: 100 bytes.
-fn joined(buf: &mut [u8]) -> usize {
-    let header = four(buf, 0, 3, 24, 1, 72);
-    let counts = pair(buf, header, 4, 84);
-    let items = joined_items(buf, counts);
-    joined_tables(buf, items)
-}
-
-fn joined_items(buf: &mut [u8], at: usize) -> usize {
-    let left = four(buf, at, 9, 10, 0, 2);
-    let right = four(buf, left, 9, 20, 2, 2);
-    four(buf, right, 0, 0, 0, 1)
-}
-
-fn joined_tables(buf: &mut [u8], at: usize) -> usize {
-    let selectivity = word(buf, at, 32768);
-    let range = pair(buf, selectivity, 1, 2);
-    four(buf, range, 1, 2, 3, 4)
-}
-
-// The check's number, 0 for an accepted sheet.
-fn number(answer: SheetAnswer) -> u32 {
-    match answer {
-        SheetAnswer::Refused(f) => f.number(),
-        SheetAnswer::Accepted(_) => 0,
-    }
-}
-
-// Checks the buffer's first bytes and prints the answer under a name.
-fn show(rt: &impl Print, name: &[u8], buf: &[u8], length: usize) -> io::Result<()> {
-    if buf.len() < length {
-        return Ok(());
-    }
-    let answer = number(sheet_check::check(&buf[0..length]));
-    rt.write_all(name)?;
-    println!(rt; ": {answer}")
+fn joined() -> Draft {
+    let mut draft = Draft::new();
+    draft.words(&[3, 24, 1, 72, 4, 84]);
+    draft.words(&[9, 10, 0, 2]);
+    draft.words(&[9, 20, 2, 2]);
+    draft.words(&[0, 0, 0, 1]);
+    draft.words(&[32768, 1, 2]);
+    draft.words(&[1, 2, 3, 4]);
+    draft
 }
 
 // So many bytes of the joined sheet; past its end they are 0.
 pub fn cut(rt: &impl Print, name: &[u8], length: usize) -> io::Result<()> {
-    let mut space = [0u8; 128];
-    let buf: &mut [u8] = &mut space;
-    joined(buf);
-    show(rt, name, buf, length)
+    joined().show(rt, name, length)
 }
 
-// The joined sheet with two words replaced.
-pub fn replaced_two(
-    rt: &impl Print,
-    name: &[u8],
-    at: usize,
-    w: u32,
-    other: usize,
-    v: u32,
-) -> io::Result<()> {
-    let mut space = [0u8; 128];
-    let buf: &mut [u8] = &mut space;
-    joined(buf);
-    word(buf, at, w);
-    word(buf, other, v);
-    show(rt, name, buf, 100)
-}
-
-// The joined sheet with one word replaced.
-pub fn replaced(rt: &impl Print, name: &[u8], at: usize, w: u32) -> io::Result<()> {
-    replaced_two(rt, name, at, w, at, w)
+// The joined sheet with words replaced.
+pub fn replaced(rt: &impl Print, name: &[u8], words: &[(usize, u32)]) -> io::Result<()> {
+    let mut draft = joined();
+    draft.replace(words);
+    draft.show(rt, name, 100)
 }
 
 // A uniform sheet.
 pub fn made(
     rt: &impl Print,
     name: &[u8],
-    leaves: u32,
-    joins: u32,
-    predicates: u32,
-    columns: u32,
-) -> io::Result<()>
-    requires { (leaves ≤ 9999) × (joins ≤ 9999) × (predicates ≤ 9999) × (columns ≤ 9999) }
-{
-    let mut space = [0u8; 65536];
-    let buf: &mut [u8] = &mut space;
-    let length = uniform(buf, leaves, joins, predicates, columns);
-    show(rt, name, buf, length)
+    leaves: u16,
+    joins: u16,
+    predicates: u16,
+    columns: u16,
+) -> io::Result<()> {
+    let draft = uniform(leaves, joins, predicates, columns);
+    draft.show(rt, name, draft.at)
 }
 
 // A uniform sheet of leaves and columns with one word replaced.
 pub fn remade(
     rt: &impl Print,
     name: &[u8],
-    leaves: u32,
-    columns: u32,
+    leaves: u16,
+    columns: u16,
     at: usize,
     w: u32,
-) -> io::Result<()>
-    requires { (leaves ≤ 9999) × (columns ≤ 9999) }
-{
-    let mut space = [0u8; 65536];
-    let buf: &mut [u8] = &mut space;
-    let length = uniform(buf, leaves, 0, 0, columns);
-    word(buf, at, w);
-    show(rt, name, buf, length)
+) -> io::Result<()> {
+    let mut draft = uniform(leaves, 0, 0, columns);
+    let length = draft.at;
+    draft.replace(&[(at, w)]);
+    draft.show(rt, name, length)
 }

@@ -1,17 +1,16 @@
--- An item and its table by what is read, and what a verdict and an answer say. Assumes nothing.
-use Rattle.std.specs.Prelude.{ℕ, ◌<◌, List, ◌≡◌, eqb}
+-- An item and its table by what is read, and what an answer says. Assumes nothing.
+use Rattle.std.specs.Prelude.{ℕ, ◌<◌, List, ◌≡◌, eqb, Result, Ok, Err, IsErrAnd}
 use Rattle.std.proofs.Common.{inl, inr, sym, ap, ◌∙◌, arith}
+use Rattle.std.proofs.lemmas.Result.{err_from_is_err_and}
 use Rattle.definition.specs.Question.{Range, Item, leaf}
 use Rattle.definition.specs.Sheet.{question_of, table_length}
 use Rattle.definition.proofs.SheetLaws.{length_columns, length_predicates, true_or_false}
 use Rattle.sheet.specs.Views.{Placed}
 use Rattle.sheet.specs.declared.Sections.{Sections}
-use Rattle.sheet_check.specs.Views.{number_of, verdict_number, table_count}
+use Rattle.sheet_check.specs.Views.{number_of, answer_number, table_count}
 use Rattle.sheet_check.specs.declared.Fault.{Fault}
-use Rattle.sheet_check.specs.declared.Fault.TheVariants.{Truncated, OverLimit, Misplaced, UnknownKind, ReservedNotZero, RangePastTable, SelectivityAboveOne, TooManyLeaves, BrokenWalk}
-use Rattle.sheet_check.specs.declared.Verdict.{Verdict}
-use Rattle.sheet_check.specs.declared.Verdict.TheVariants.{Pass, Fail}
-use Rattle.sheet_check.specs.declared.SheetAnswer.TheVariants.{Refused, Accepted}
+use Rattle.sheet_check.specs.declared.Fault.TheVariants.{Truncated, OverLimit, Misplaced, UnknownKind, ReservedNotZero}
+use Rattle.sheet_check.specs.declared.Fault.TheVariants.{RangePastTable, SelectivityAboveOne, TooManyLeaves, BrokenWalk}
 
 -- an item by its fields
 pub item_of : (x : Item) {k r : ℕ} {g : Range} → k ≡ x.kind → r ≡ x.rows → g ≡ x.range → record { kind = k; rows = r; range = g } ≡ x
@@ -37,18 +36,26 @@ positive SelectivityAboveOne = omega arith
 positive TooManyLeaves = omega arith
 positive BrokenWalk = omega arith
 
--- what a part's verdict says of the definition's number
-pub number_fails : {v : Verdict} (f : Fault) {n : ℕ} → v ≡ Fail f → verdict_number v ≡ n → (number_of f ≡ n) × (0 < n)
-number_fails {v} f {n} e h =
-    let same : number_of f ≡ n = sym (ap verdict_number e) ∙ h in
-    (same, omega (arith, positive f))
+-- what an answer says of the definition's number
+module _ {A : Type 0} {v : Result A Fault} {n : ℕ} where
+  pub number_fails : (f : Fault) → v ≡ Err f → answer_number v ≡ n → (number_of f ≡ n) × (0 < n)
+  number_fails f e h =
+      let same : number_of f ≡ n = sym (ap answer_number e) ∙ h in
+      (same, omega (arith, positive f))
 
-pub number_passes : {v : Verdict} {n : ℕ} → v ≡ Pass → verdict_number v ≡ n → n ≡ 0
-number_passes e h = sym h ∙ ap verdict_number e
+  pub number_passes : {x : A} → v ≡ Ok x → answer_number v ≡ n → n ≡ 0
+  number_passes e h = sym h ∙ ap answer_number e
+
+-- where a `?` hands a fault on, the answer is the fault's number
+pub fault_exits : {A : Type 0} (r : Result A Fault) (f : Fault) {n m : ℕ} → IsErrAnd r (λ y. y ≡ f)
+    → number_of f ≡ n → (0 < n → n ≡ m) → answer_number r ≡ m
+fault_exits r f e h k =
+    let exit = err_from_is_err_and r e in
+    rw (exit.1, exit.2) (h ∙ k (omega (arith, positive f)))
 
 -- an answer is of one kind, and an accepted one has one value
-pub never_accepted : {f : Fault} {s t : Sections} → Refused f ≡ Accepted s → s ≡ t
-never_accepted e = let z : ◌≡◌ {A = ℕ} 0 1 = cc in absurd (omega arith)
+pub never_accepted : {A : Type 0} {v : Result A Fault} {f : Fault} {s t : A} → v ≡ Err f → v ≡ Ok s → s ≡ t
+never_accepted e h = let z : ◌≡◌ {A = ℕ} 0 1 = cc in absurd (omega arith)
 
-pub same_sections : {s t u : Sections} → Accepted s ≡ Accepted t → s ≡ u → t ≡ u
-same_sections e h = cc
+pub same_sections : {A : Type 0} {v : Result A Fault} {s t u : A} → v ≡ Ok s → v ≡ Ok t → s ≡ u → t ≡ u
+same_sections e f h = cc

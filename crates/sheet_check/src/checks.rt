@@ -1,183 +1,159 @@
 // The sheet check, in document 01's order: header; item by item; predicate by predicate; the walk.
-ghost use Rattle.std.specs.Prelude.{◌≡◌, ◌+◌, ◌<◌, ◌≤◌, length};
+ghost use Rattle.std.specs.Prelude.{◌≡◌, ◌<◌, length, Result, Ok};
 ghost use Rattle.definition.specs.Lists.{concat_map};
 ghost use Rattle.definition.specs.Question.{item, predicate, fits};
 ghost use Rattle.definition.specs.Sheet.{question_of, first_failing, header_checks, item_checks, predicate_checks, walk_checks, reserved_is_set, sheet_answer};
-ghost use Rattle.sheet.specs.Views.{range_of, sections_of, Placed};
-ghost use Rattle.sheet_check.specs.Views.{verdict_number, answer_number, table_count};
+ghost use Rattle.sheet.specs.Views.{range_of, sections_of};
+ghost use Rattle.sheet_check.specs.Views.{answer_number, table_count};
 
-use crate::{Fault, SheetAnswer, Verdict};
+use crate::Fault;
 use nodeset::PredicateId;
-use sheet::{Range, Sections};
+use sheet::{Range, Sections, Sheet};
 
 // Length, counts, offsets.
-fn check_header(sheet: &[u8]) -> Verdict
-    ensures { verdict_number result ≡ first_failing (header_checks sheet.now) }
+fn check_header(sheet: &[u8]) -> Result<(), Fault>
+    ensures { answer_number result ≡ first_failing (header_checks sheet.now) }
 {
     if sheet.len() < 24 {
-        return Verdict::Fail(Fault::Truncated);
+        return Err(Fault::Truncated);
     }
     let s = sheet::sections_of(sheet);
     if 127 < s.items.count {
-        return Verdict::Fail(Fault::OverLimit);
+        return Err(Fault::OverLimit);
     }
     if 256 < s.predicates.count {
-        return Verdict::Fail(Fault::OverLimit);
+        return Err(Fault::OverLimit);
     }
     if 4096 < s.columns.count {
-        return Verdict::Fail(Fault::OverLimit);
+        return Err(Fault::OverLimit);
     }
     if s.items.offset != 24 {
-        return Verdict::Fail(Fault::Misplaced);
+        return Err(Fault::Misplaced);
     }
     if s.predicates.offset != s.items.offset + 16 * s.items.count {
-        return Verdict::Fail(Fault::Misplaced);
+        return Err(Fault::Misplaced);
     }
     if s.columns.offset != s.predicates.offset + 12 * s.predicates.count {
-        return Verdict::Fail(Fault::Misplaced);
+        return Err(Fault::Misplaced);
     }
     if sheet.len() != s.columns.offset + 4 * s.columns.count {
-        return Verdict::Fail(Fault::Misplaced);
+        return Err(Fault::Misplaced);
     }
-    Verdict::Pass
+    Ok(())
 }
 
 // The range lies in a table of so many entries; the sum does not wrap.
 fn fits(r: Range, table: usize) -> bool
     ensures { result ≡ fits (range_of r) table }
 {
-    r.first as u64 + r.count as u64 <= table as u64
+    u64::from(r.first) + u64::from(r.count) <= table as u64
 }
 
 // A word that should be 0 isn't.
+// kept: a kind is a number: a sheet may hold any until it is checked, and the lent lists hold it as one.
 fn reserved_is_set(kind: u32, rows: u64, r: Range) -> bool
     ensures { result ≡ reserved_is_set (record { kind = kind; rows = rows; range = range_of r }) }
 {
-    if kind == 9 {
-        return false;
-    }
-    if rows != 0 {
-        return true;
-    }
-    if kind != 8 {
-        return false;
-    }
-    if r.first != 0 {
-        return true;
-    }
-    r.count != 0
+    kind != 9 && rows != 0 || kind == 8 && (r.first != 0 || r.count != 0)
 }
 
-fn check_item(sheet: &[u8], s: Sections, i: usize) -> Verdict
-    requires { Placed sheet.now s × (i < s.items.count) }
-    ensures { verdict_number result ≡ first_failing (item_checks (question_of sheet.now) (item (question_of sheet.now) i)) }
+// An item's kind, the words that should be 0, and its range.
+// kept: a kind is a number: a sheet may hold any until it is checked, and the lent lists hold it as one.
+fn check_item(sheet: &Sheet<'_>, i: usize) -> Result<(), Fault>
+    requires { i < sheet.now.sections.items.count }
+    ensures { answer_number result ≡ first_failing (item_checks (question_of sheet.now.bytes.now) (item (question_of sheet.now.bytes.now) i)) }
 {
-    let kind = sheet::item_kind(sheet, s, i);
+    let kind = sheet.item_kind(i);
     if 9 < kind {
-        return Verdict::Fail(Fault::UnknownKind);
+        return Err(Fault::UnknownKind);
     }
-    let rows = sheet::item_rows(sheet, s, i);
-    let r = sheet::item_range(sheet, s, i);
+    let rows = sheet.item_rows(i);
+    let r = sheet.item_range(i);
     if reserved_is_set(kind, rows, r) {
-        return Verdict::Fail(Fault::ReservedNotZero);
+        return Err(Fault::ReservedNotZero);
     }
-    let table = table_count(s, kind);
+    let table = table_count(sheet.sections, kind);
     if fits(r, table) {
-        Verdict::Pass
+        Ok(())
     } else {
-        Verdict::Fail(Fault::RangePastTable)
+        Err(Fault::RangePastTable)
     }
 }
 
 // A leaf's range is one of columns, a join's one of predicates.
+// kept: a kind is a number: a sheet may hold any until it is checked, and the lent lists hold it as one.
 fn table_count(s: Sections, kind: u32) -> usize
     ensures { result ≡ table_count s kind }
 {
     if kind == 9 {
-        return s.columns.count;
-    }
-    s.predicates.count
-}
-
-fn check_items(sheet: &[u8], s: Sections) -> Verdict
-    requires { Placed sheet.now s }
-    ensures { verdict_number result ≡ first_failing (concat_map (item_checks (question_of sheet.now)) (question_of sheet.now).items) }
-{
-    let n = s.items.count;
-    let mut i = 0;
-    while i < n {
-        let v = check_item(sheet, s, i);
-        if let Verdict::Fail(f) = v {
-            return Verdict::Fail(f);
-        }
-        i += 1;
-    }
-    Verdict::Pass
-}
-
-fn check_predicate(sheet: &[u8], s: Sections, p: PredicateId) -> Verdict
-    requires { Placed sheet.now s × (p.0 < s.predicates.count) }
-    ensures { verdict_number result ≡ first_failing (predicate_checks (question_of sheet.now) (predicate (question_of sheet.now) p.0)) }
-{
-    if 65536 < sheet::predicate_selectivity(sheet, s, p) {
-        return Verdict::Fail(Fault::SelectivityAboveOne);
-    }
-    let r = sheet::predicate_range(sheet, s, p);
-    if fits(r, s.columns.count) {
-        Verdict::Pass
+        s.columns.count
     } else {
-        Verdict::Fail(Fault::RangePastTable)
+        s.predicates.count
     }
 }
 
-fn check_predicates(sheet: &[u8], s: Sections) -> Verdict
-    requires { Placed sheet.now s }
-    ensures { verdict_number result ≡ first_failing (concat_map (predicate_checks (question_of sheet.now)) (question_of sheet.now).predicates) }
+// kept: beside check_predicates, since items and predicates are numbered by different types and have different checks.
+fn check_items(sheet: &Sheet<'_>) -> Result<(), Fault>
+    ensures { answer_number result ≡ first_failing (concat_map (item_checks (question_of sheet.now.bytes.now)) (question_of sheet.now.bytes.now).items) }
 {
-    let n = s.predicates.count;
-    let mut p: u32 = 0;
-    while (p as usize) < n {
-        let v = check_predicate(sheet, s, PredicateId(p));
-        if let Verdict::Fail(f) = v {
-            return Verdict::Fail(f);
-        }
-        p += 1;
+    for i in 0..sheet.sections.items.count {
+        check_item(sheet, i)?;
     }
-    Verdict::Pass
+    Ok(())
 }
 
-fn check_walk(sheet: &[u8], s: Sections) -> Verdict
-    requires { Placed sheet.now s }
-    ensures { verdict_number result ≡ first_failing (walk_checks (question_of sheet.now)) }
+fn check_predicate(sheet: &Sheet<'_>, p: PredicateId) -> Result<(), Fault>
+    requires { p.0 < sheet.now.sections.predicates.count }
+    ensures { answer_number result ≡ first_failing (predicate_checks (question_of sheet.now.bytes.now) (predicate (question_of sheet.now.bytes.now) p.0)) }
 {
-    let crowded = 64 < sheet::leaf_count(sheet, s);
-    let broken = !sheet::is_walk(sheet, s);
+    if 65536 < sheet.predicate_selectivity(p) {
+        return Err(Fault::SelectivityAboveOne);
+    }
+    let r = sheet.predicate_range(p);
+    if fits(r, sheet.sections.columns.count) {
+        Ok(())
+    } else {
+        Err(Fault::RangePastTable)
+    }
+}
+
+// kept: beside check_items, as said there.
+fn check_predicates(sheet: &Sheet<'_>) -> Result<(), Fault>
+    ensures { answer_number result
+        ≡ first_failing (concat_map (predicate_checks (question_of sheet.now.bytes.now)) (question_of sheet.now.bytes.now).predicates) }
+{
+    for p in 0..sheet.sections.predicates.count as u32 {
+        check_predicate(sheet, PredicateId(p))?;
+    }
+    Ok(())
+}
+
+fn check_walk(sheet: &Sheet<'_>) -> Result<(), Fault>
+    ensures { answer_number result ≡ first_failing (walk_checks (question_of sheet.now.bytes.now)) }
+{
+    let crowded = 64 < sheet.leaf_count();
+    let broken = !sheet.is_walk();
     if crowded {
-        return Verdict::Fail(Fault::TooManyLeaves);
+        return Err(Fault::TooManyLeaves);
     }
     if broken {
-        return Verdict::Fail(Fault::BrokenWalk);
+        return Err(Fault::BrokenWalk);
     }
-    Verdict::Pass
+    Ok(())
 }
 
 // Any bytes get an answer: the first check of document 01 that fails, or where the sections stand.
-pub fn check(sheet: &[u8]) -> SheetAnswer
+pub fn check(sheet: &[u8]) -> Result<Sections, Fault>
     ensures answer { answer_number result ≡ sheet_answer sheet.now }
-    ensures sections { (s : Sections) → result ≡ SheetAnswer.Accepted s → s ≡ sections_of sheet.now }
+    ensures sections { (s : Sections) → result ≡ Ok s → s ≡ sections_of sheet.now }
 {
-    if let Verdict::Fail(f) = check_header(sheet) {
-        return SheetAnswer::Refused(f);
-    }
-    let s = sheet::sections_of(sheet);
-    if let Verdict::Fail(f) = check_items(sheet, s) {
-        return SheetAnswer::Refused(f);
-    }
-    if let Verdict::Fail(f) = check_predicates(sheet, s) {
-        return SheetAnswer::Refused(f);
-    }
-    if let Verdict::Fail(f) = check_walk(sheet, s) {
-        return SheetAnswer::Refused(f);
-    }
-    SheetAnswer::Accepted(s)
+    check_header(sheet)?;
+    let read = Sheet {
+        bytes: sheet,
+        sections: sheet::sections_of(sheet),
+    };
+    check_items(&read)?;
+    check_predicates(&read)?;
+    check_walk(&read)?;
+    Ok(read.sections)
 }

@@ -1,2 +1,3 @@
 -- Laws of the loops.
 pub mod Stepping
+pub mod StandingLaws

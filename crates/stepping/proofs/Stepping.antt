@@ -1,9 +1,8 @@
--- The search's three loops, over any state with a stop number that, once it is not 0, lets nothing change the state: over the subsets of a
--- set, over its leaves from the highest down, and over the leaves of the question. Each loop is left early when stopped. The invariant says
--- what is left to do from here. Assumes nothing.
-use Rattle.std.specs.Prelude.{◌≡◌, refl, ℕ, zero, suc, ◌-◌, ◌^◌, ◌<◌, ◌≤◌, Bool, true, false, List, [], ◌∷◌, eqb}
-use Rattle.std.proofs.Common.{sym, ap, ◌∙◌, subst, arith, eq-eqb, ne_eqb, eqb-true}
-use Rattle.std.proofs.lemmas.Bool.{eqb-false}
+-- The search's three loops, over any state that, once it has stopped, nothing changes: over the subsets of a set, over its leaves from the
+-- highest down, and over the leaves of the question. Each loop is left early when stopped. The invariant says what is left to do from here.
+-- Assumes nothing.
+use Rattle.std.specs.Prelude.{◌≡◌, refl, ℕ, zero, suc, ◌-◌, ◌^◌, ◌<◌, ◌≤◌, Bool, true, false, List, [], ◌∷◌}
+use Rattle.std.proofs.Common.{sym, ap, ◌∙◌, subst, arith}
 use Rattle.nodeset.specs.Sets.{singleton, highest, difference, all_below}
 use Rattle.nodeset.specs.Subsets.{non_empty_subsets, singletons, next_subset}
 use Rattle.nodeset.specs.SubsetLaws.{Steps}
@@ -14,45 +13,43 @@ use Rattle.stepping.specs.Next.{subset_after, leaves_after, count_after}
 
 -- ---- what comes next
 
-pub subset_go : (s t stop : ℕ) → stop ≡ 0 → next_subset s t ≡ subset_after s t stop
+pub subset_go : (s t : ℕ) (stop : Bool) → stop ≡ false → next_subset s t ≡ subset_after s t stop
 unfolding subset_after
-subset_go s t stop h = rw (eq-eqb stop 0 h, subset_after)
+subset_go s t stop h = rw h
 
-pub subset_stop : (s t stop : ℕ) → (stop ≡ 0 → ⊥) → 0 ≡ subset_after s t stop
+pub subset_stop : (s t : ℕ) (stop : Bool) → stop ≡ true → 0 ≡ subset_after s t stop
 unfolding subset_after
-subset_stop s t stop h = rw (ne_eqb stop 0 h, subset_after)
+subset_stop s t stop h = rw h
 
-pub leaves_go : (s v stop : ℕ) → stop ≡ 0 → difference s v ≡ leaves_after s v stop
+pub leaves_go : (s v : ℕ) (stop : Bool) → stop ≡ false → difference s v ≡ leaves_after s v stop
 unfolding leaves_after
-leaves_go s v stop h = rw (eq-eqb stop 0 h, leaves_after)
+leaves_go s v stop h = rw h
 
-pub leaves_stop : (s v stop : ℕ) → (stop ≡ 0 → ⊥) → 0 ≡ leaves_after s v stop
+pub leaves_stop : (s v : ℕ) (stop : Bool) → stop ≡ true → 0 ≡ leaves_after s v stop
 unfolding leaves_after
-leaves_stop s v stop h = rw (ne_eqb stop 0 h, leaves_after)
+leaves_stop s v stop h = rw h
 
-pub count_go : (j stop : ℕ) → stop ≡ 0 → j ≡ count_after j stop
+pub count_go : (j : ℕ) (stop : Bool) → stop ≡ false → j ≡ count_after j stop
 unfolding count_after
-count_go j stop h = rw (eq-eqb stop 0 h, count_after)
+count_go j stop h = rw h
 
-pub count_stop : (j stop : ℕ) → (stop ≡ 0 → ⊥) → 0 ≡ count_after j stop
+pub count_stop : (j : ℕ) (stop : Bool) → stop ≡ true → 0 ≡ count_after j stop
 unfolding count_after
-count_stop j stop h = rw (ne_eqb stop 0 h, count_after)
+count_stop j stop h = rw h
 
-pub count_le : (j stop : ℕ) → count_after j stop ≤ j
-count_le j stop = go (eqb stop 0) refl
-  where
-    go : (b : Bool) → eqb stop 0 ≡ b → count_after j stop ≤ j
-    go true q = omega (arith, count_go j stop (eqb-true _ _ q))
-    go false q = omega (arith, count_stop j stop (eqb-false _ _ q))
+pub count_le : (j : ℕ) (stop : Bool) → count_after j stop ≤ j
+unfolding count_after
+count_le j true = omega arith
+count_le j false = omega arith
 
 -- ---- the subsets
 
 -- at t, with these subsets yet to come, t the first of them; 0 when there are none
-abbrev At : ℕ → ℕ → List ℕ → Type 0
+abbrev pub At : ℕ → ℕ → List ℕ → Type 0
 At s t [] = t ≡ 0
 At s t (u ∷ r) = (u ≡ t) × (0 < t) × (t ≤ s) × Steps s t r
 
-at_next : (s t : ℕ) (r : List ℕ) → s < 2 ^ 64 → Steps s t r → At s (next_subset s t) r
+pub at_next : (s t : ℕ) (r : List ℕ) → s < 2 ^ 64 → Steps s t r → At s (next_subset s t) r
 at_next s t [] h p = ap (next_subset s) p ∙ next_last s h
 at_next s t (v ∷ r) h p =
     (sym p.2, omega (arith, p.0, p.2), omega (arith, p.1, p.2), subst (λ (x : ℕ). Steps s x r) (sym p.2) p.3)
@@ -62,18 +59,18 @@ pub far : ℕ → ℕ → ℕ
 far s zero = 0
 far s (suc t) = suc (s - suc t)
 
-far_up : (s t v : ℕ) → (v ≡ 0 → ⊥) → t < v → v ≤ s → (t ≡ 0 → ⊥) → far s v < far s t
+pub far_up : (s t v : ℕ) → (v ≡ 0 → ⊥) → t < v → v ≤ s → (t ≡ 0 → ⊥) → far s v < far s t
 unfolding far
 far_up s zero v f l h g = absurd (g refl)
 far_up s (suc t) zero f l h g = absurd (f refl)
 far_up s (suc t) (suc v) f l h g = omega arith
 
-far_zero : (s t v : ℕ) → v ≡ 0 → (t ≡ 0 → ⊥) → far s v < far s t
+pub far_zero : (s t v : ℕ) → v ≡ 0 → (t ≡ 0 → ⊥) → far s v < far s t
 unfolding far
 far_zero s zero v e g = absurd (g refl)
 far_zero s (suc t) v e g = rw e (omega arith)
 
-module _ {S : Type 0} (stop : S → ℕ) where
+module _ {S : Type 0} (stop : S → Bool) where
   -- f over the subsets that are left, from here, gives the whole
   pub record Passing (f : ℕ → S → S) (s : ℕ) (whole : S) (t : ℕ) (st : S) : Type 0 where
     pub rest : List ℕ
@@ -81,7 +78,7 @@ module _ {S : Type 0} (stop : S → ℕ) where
     pub does : each f rest st ≡ whole
 
   abbrev pub Frozen : (S → S) → Type 0
-  Frozen f = (st : S) → (stop st ≡ 0 → ⊥) → f st ≡ st
+  Frozen f = (st : S) → stop st ≡ true → f st ≡ st
 
   pub each_frozen : (f : ℕ → S → S) → ((t : ℕ) → Frozen (f t)) → (ts : List ℕ) → Frozen (each f ts)
   each_frozen f z [] st h = refl
@@ -89,13 +86,13 @@ module _ {S : Type 0} (stop : S → ℕ) where
 
   module _ (f : ℕ → S → S) (frozen : (t : ℕ) → Frozen (f t)) (s : ℕ) (hs : s < 2 ^ 64) where
     resume : (whole : S) (t : ℕ) (r : List ℕ) (st : S) → Steps s t r → each f r st ≡ whole → Passing f s whole (subset_after s t (stop st)) st
-    resume whole t r st p w = go (eqb (stop st) 0) refl
+    resume whole t r st p w = go (stop st) refl
       where
-        go : (b : Bool) → eqb (stop st) 0 ≡ b → Passing f s whole (subset_after s t (stop st)) st
-        go true e = rw (← subset_go s t (stop st) (eqb-true _ _ e)) record { rest = r; place = at_next s t r hs p; does = w }
-        go false e =
-            rw (← subset_stop s t (stop st) (eqb-false _ _ e))
-            record { rest = []; place = refl; does = sym (each_frozen f frozen r st (eqb-false _ _ e)) ∙ w }
+        go : (b : Bool) → stop st ≡ b → Passing f s whole (subset_after s t (stop st)) st
+        go false e = rw (← subset_go s t (stop st) e) record { rest = r; place = at_next s t r hs p; does = w }
+        go true e =
+            rw (← subset_stop s t (stop st) e)
+            record { rest = []; place = refl; does = sym (each_frozen f frozen r st e) ∙ w }
 
     pub passing_start : (st : S) (t : ℕ) → t ≡ subset_after s 0 (stop st) → Passing f s (each f (non_empty_subsets s) st) t st
     passing_start st t e = rw e (resume (each f (non_empty_subsets s) st) 0 (non_empty_subsets s) st (subsets_steps s hs) refl)
@@ -108,8 +105,8 @@ module _ {S : Type 0} (stop : S → ℕ) where
         go [] a w = absurd (h a)
         go (x ∷ r) a w = rw d (resume whole t r u a.3 (ap (each f r) (e ∙ ap (λ (y : ℕ). f y st) (sym a.0)) ∙ w))
 
-    pub passing_less : {whole : S} {t : ℕ} {st : S} (z t' : ℕ) → Passing f s whole t st → (t ≡ 0 → ⊥) → t' ≡ subset_after s t z → far s t' < far s t
-    passing_less {whole} {t} {st} z t' p h d = rw d (go p.rest p.place (eqb z 0) refl)
+    pub passing_less : {whole : S} {t : ℕ} {st : S} (z : Bool) (t' : ℕ) → Passing f s whole t st → (t ≡ 0 → ⊥) → t' ≡ subset_after s t z → far s t' < far s t
+    passing_less {whole} {t} {st} z t' p h d = rw d (go p.rest p.place z refl)
       where
         next_far : (r : List ℕ) → At s (next_subset s t) r → Steps s t r → far s (next_subset s t) < far s t
         next_far [] a q = far_zero s t (next_subset s t) a h
@@ -117,10 +114,10 @@ module _ {S : Type 0} (stop : S → ℕ) where
             let up : t < next_subset s t = omega (arith, q.0, q.2) in
             far_up s t (next_subset s t) (λ k. omega (arith, a.1)) up a.2 h
 
-        go : (r : List ℕ) → At s t r → (b : Bool) → eqb z 0 ≡ b → far s (subset_after s t z) < far s t
+        go : (r : List ℕ) → At s t r → (b : Bool) → z ≡ b → far s (subset_after s t z) < far s t
         go [] a b e = absurd (h a)
-        go (x ∷ r) a true e = rw (← subset_go s t z (eqb-true _ _ e)) (next_far r (at_next s t r hs a.3) a.3)
-        go (x ∷ r) a false e = rw (← subset_stop s t z (eqb-false _ _ e)) (far_zero s t 0 refl h)
+        go (x ∷ r) a false e = rw (← subset_go s t z e) (next_far r (at_next s t r hs a.3) a.3)
+        go (x ∷ r) a true e = rw (← subset_stop s t z e) (far_zero s t 0 refl h)
 
   pub passing_end : {f : ℕ → S → S} {s : ℕ} {whole : S} {t : ℕ} {st : S} → Passing f s whole t st → t ≡ 0 → st ≡ whole
   passing_end {f} {s} {whole} {t} {st} p h = go p.rest p.place p.does
@@ -131,17 +128,17 @@ module _ {S : Type 0} (stop : S → ℕ) where
 
 -- ---- the leaves of a set, from the highest down
 
-pub leaves_less : (v b stop : ℕ) → 0 < v → v < 2 ^ 64 → b ≡ singleton (highest v) → leaves_after v b stop < v
-leaves_less v b stop p h e = go (eqb stop 0) refl
+pub leaves_less : (v b : ℕ) (stop : Bool) → 0 < v → v < 2 ^ 64 → b ≡ singleton (highest v) → leaves_after v b stop < v
+leaves_less v b stop p h e = go stop refl
   where
-    go : (t : Bool) → eqb stop 0 ≡ t → leaves_after v b stop < v
-    go true q = subst (λ (x : ℕ). x < v) (leaves_go v b stop (eqb-true _ _ q)) (subst (λ (x : ℕ). difference v x < v) (sym e) (rest_less v p h))
-    go false q = subst (λ (x : ℕ). x < v) (leaves_stop v b stop (eqb-false _ _ q)) p
+    go : (t : Bool) → stop ≡ t → leaves_after v b stop < v
+    go false q = subst (λ (x : ℕ). x < v) (leaves_go v b stop q) (subst (λ (x : ℕ). difference v x < v) (sym e) (rest_less v p h))
+    go true q = subst (λ (x : ℕ). x < v) (leaves_stop v b stop q) p
 
-module _ {S : Type 0} (stop : S → ℕ) (f : ℕ → S → S) (frozen : (t : ℕ) → Frozen stop (f t)) where
+module _ {S : Type 0} (stop : S → Bool) (f : ℕ → S → S) (frozen : (t : ℕ) → Frozen stop (f t)) where
   pub falling_next : {whole st : S} (u : S) {v : ℕ} (b v' : ℕ) → each f (singletons v) st ≡ whole → 0 < v → v < 2 ^ 64 → b ≡ singleton (highest v)
       → u ≡ f b st → v' ≡ leaves_after v b (stop u) → each f (singletons v') u ≡ whole
-  falling_next {whole} {st} u {v} b v' w p h eb eu ev = ap (λ (x : ℕ). each f (singletons x) u) ev ∙ go (eqb (stop u) 0) refl
+  falling_next {whole} {st} u {v} b v' w p h eb eu ev = ap (λ (x : ℕ). each f (singletons x) u) ev ∙ go (stop u) refl
     where
       rest : each f (singletons (difference v b)) u ≡ whole
       rest =
@@ -150,12 +147,12 @@ module _ {S : Type 0} (stop : S → ℕ) (f : ℕ → S → S) (frozen : (t : �
           ∙ ap (λ (l : List ℕ). each f l st) (sym (singletons_step v p h))
           ∙ w
 
-      go : (t : Bool) → eqb (stop u) 0 ≡ t → each f (singletons (leaves_after v b (stop u))) u ≡ whole
-      go true q = ap (λ (x : ℕ). each f (singletons x) u) (sym (leaves_go v b (stop u) (eqb-true _ _ q))) ∙ rest
-      go false q =
-          ap (λ (x : ℕ). each f (singletons x) u) (sym (leaves_stop v b (stop u) (eqb-false _ _ q)))
+      go : (t : Bool) → stop u ≡ t → each f (singletons (leaves_after v b (stop u))) u ≡ whole
+      go false q = ap (λ (x : ℕ). each f (singletons x) u) (sym (leaves_go v b (stop u) q)) ∙ rest
+      go true q =
+          ap (λ (x : ℕ). each f (singletons x) u) (sym (leaves_stop v b (stop u) q))
           ∙ ap (λ (l : List ℕ). each f l u) singletons_none
-          ∙ sym (each_frozen stop f frozen (singletons (difference v b)) u (eqb-false _ _ q))
+          ∙ sym (each_frozen stop f frozen (singletons (difference v b)) u q)
           ∙ rest
 
   pub falling_end : {whole st : S} {v : ℕ} → each f (singletons v) st ≡ whole → v ≡ 0 → st ≡ whole
@@ -164,13 +161,13 @@ module _ {S : Type 0} (stop : S → ℕ) (f : ℕ → S → S) (frozen : (t : �
 
 -- ---- the leaves of the question: `from k` does the first k
 
-module _ {S : Type 0} (stop : S → ℕ) (leaf : ℕ → ℕ → S → S) (from : ℕ → S → S) (frozen : (k : ℕ) → Frozen stop (from k))
+module _ {S : Type 0} (stop : S → Bool) (leaf : ℕ → ℕ → S → S) (from : ℕ → S → S) (frozen : (k : ℕ) → Frozen stop (from k))
     (from_zero : (st : S) → from 0 st ≡ st)
     (from_suc : (v : ℕ) (st : S) → from (suc v) st ≡ from v (leaf (singleton v) (all_below (suc v)) st)) where
   pub count_next : {whole st : S} (u : S) (k a x k' : ℕ) → from k st ≡ whole → (k ≡ 0 → ⊥) → a ≡ singleton (k - 1) → x ≡ all_below k → u ≡ leaf a x st
       → k' ≡ count_after (k - 1) (stop u) → from k' u ≡ whole
   count_next {whole} {st} u zero a x k' w p ea ex eu ek = absurd (p refl)
-  count_next {whole} {st} u (suc k) a x k' w p ea ex eu ek = ap (λ (z : ℕ). from z u) ek ∙ go (eqb (stop u) 0) refl
+  count_next {whole} {st} u (suc k) a x k' w p ea ex eu ek = ap (λ (z : ℕ). from z u) ek ∙ go (stop u) refl
     where
       less : suc k - 1 ≡ k
       less = omega arith
@@ -182,12 +179,12 @@ module _ {S : Type 0} (stop : S → ℕ) (leaf : ℕ → ℕ → S → S) (from 
           ∙ sym (from_suc k st)
           ∙ w
 
-      go : (b : Bool) → eqb (stop u) 0 ≡ b → from (count_after (suc k - 1) (stop u)) u ≡ whole
-      go true q = ap (λ (z : ℕ). from z u) (sym (count_go (suc k - 1) (stop u) (eqb-true _ _ q))) ∙ rest
-      go false q =
-          ap (λ (z : ℕ). from z u) (sym (count_stop (suc k - 1) (stop u) (eqb-false _ _ q)))
+      go : (b : Bool) → stop u ≡ b → from (count_after (suc k - 1) (stop u)) u ≡ whole
+      go false q = ap (λ (z : ℕ). from z u) (sym (count_go (suc k - 1) (stop u) q)) ∙ rest
+      go true q =
+          ap (λ (z : ℕ). from z u) (sym (count_stop (suc k - 1) (stop u) q))
           ∙ from_zero u
-          ∙ sym (frozen (suc k - 1) u (eqb-false _ _ q))
+          ∙ sym (frozen (suc k - 1) u q)
           ∙ rest
 
   pub count_end : {whole st : S} {k : ℕ} → from k st ≡ whole → k ≡ 0 → st ≡ whole

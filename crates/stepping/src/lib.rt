@@ -2,34 +2,28 @@
 #![tactic(auto)]
 
 ghost use Rattle.std.specs.Prelude.{◌≡◌};
-ghost use Rattle.stepping.specs.Next.{subset_after, leaves_after, count_after};
+ghost use Rattle.stepping.specs.Next.{subset_after, leaves_after};
 
 // The subset of s after t, in rising order; 0 after the last and where stopped.
-pub fn subset_after(s: u64, t: u64, stop: u32) -> u64
-    ensures { result ≡ subset_after s t stop }
+// kept: this one and the next differ in the step that they take, which one line says.
+#[tactic(auto, unfolding(crate::specs::Next::subset_after))]
+pub fn subset_after(s: u64, t: u64, stopped: bool) -> u64
+    ensures { result ≡ subset_after s t stopped }
 {
-    if stop != 0 {
+    if stopped {
         return 0;
     }
     nodeset::next_subset(t, s)
 }
 
 // The leaves of s without those of v; none where stopped.
-pub fn leaves_after(s: u64, v: u64, stop: u32) -> u64
-    ensures { result ≡ leaves_after s v stop }
+// kept: 0 is the empty set itself.
+#[tactic(auto, unfolding(crate::specs::Next::leaves_after))]
+pub fn leaves_after(s: u64, v: u64, stopped: bool) -> u64
+    ensures { result ≡ leaves_after s v stopped }
 {
-    if stop != 0 {
+    if stopped {
         return 0;
     }
     nodeset::difference(s, v)
-}
-
-// j leaves are left to do; none where stopped.
-pub fn count_after(j: u32, stop: u32) -> u32
-    ensures { result ≡ count_after j stop }
-{
-    if stop != 0 {
-        return 0;
-    }
-    j
 }

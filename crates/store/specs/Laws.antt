@@ -1,5 +1,5 @@
 -- Laws of the crate's definitions, one for each way through a function. Assumes nothing.
-use Rattle.std.specs.Prelude.{◌≡◌, refl, Bool, List, [], ◌∷◌, get_or, take, drop, ltb}
+use Rattle.std.specs.Prelude.{◌≡◌, refl, Bool, List, [], ◌∷◌, get_or, take, drop, ltb, None, Some, is_some}
 use Rattle.std.proofs.Math.Path.{sym, ap, ap₂}
 use Rattle.std.proofs.Common.{◌∙◌, le_of_lt, zero-add, suc-add, drop_of_length-le, drop-cons, get_or-take, take_all}
 use Rattle.std.proofs.Math.Bool.{true, false, ◌||◌, or-false, or_assoc}
@@ -12,9 +12,8 @@ use Rattle.std.proofs.Math.ListN.{length, length-take}
 use Rattle.std.proofs.Math.Seq.{take-length}
 use Rattle.std.proofs.Math.Dec.{eqb}
 use borrow.Author.Tests.{eq-eqb, ne_eqb, lt-ltb, le-ltb, eqb-false, ltb-true, ltb-false}
-use Rattle.definition.specs.Answers.{visits_spent}
 use Rattle.store.specs.declared.DPhyp.{DPhyp}
-use Rattle.store.specs.declared.Found.TheVariants.{At, Nothing}
+use Rattle.store.specs.declared.Stop.TheVariants.{VisitsSpent}
 use Rattle.store.specs.Counts.{counts, visit_of}
 use Rattle.store.specs.Memo.{spot, holds}
 
@@ -32,7 +31,7 @@ module _ (l : List ℕ) (n i s : ℕ) where
       let m = min-le_left n (length l) in
       drop-cons (take n l) i 0 k ∙ ap (λ (x : ℕ). x ∷ drop (suc i) (take n l)) (get_or-take n l i 0 (omega arith))
 
-  pub spot_here : i < min n (length l) → get_or l i 0 ≡ s → At i ≡ spot i (drop i (take n l)) s
+  pub spot_here : i < min n (length l) → get_or l i 0 ≡ s → Some i ≡ spot i (drop i (take n l)) s
   unfolding spot
   spot_here h e = rw (front h, eq-eqb (get_or l i 0) s e, spot)
 
@@ -40,7 +39,7 @@ module _ (l : List ℕ) (n i s : ℕ) where
   unfolding spot
   spot_on h e = sym (rw (front h, ne_eqb (get_or l i 0) s e, spot, add-one))
 
-  pub spot_end : min n (length l) ≤ i → Nothing ≡ spot i (drop i (take n l)) s
+  pub spot_end : min n (length l) ≤ i → None ≡ spot i (drop i (take n l)) s
   unfolding spot
   spot_end h = let k : length (take n l) ≤ i = omega (arith, length-take n l) in rw (drop_of_length-le (take n l) k)
 
@@ -59,7 +58,16 @@ module _ (l : List ℕ) (s : ℕ) where
       go zero i = rw (add-zero, zero-add)
       go (suc k) i =
           let e : i + suc k ≡ suc i + k = omega arith in
-          rw (suc-add k m, e) (or_assoc (eqb (get_or l i 0) s) (holds l (suc i) k s) (holds l (suc i + k) m s) ∙ ap (λ (b : Bool). eqb (get_or l i 0) s || b) (go k (suc i)))
+          rw (suc-add k m, e)
+          (or_assoc (eqb (get_or l i 0) s) (holds l (suc i) k s) (holds l (suc i + k) m s)
+          ∙ ap (λ (b : Bool). eqb (get_or l i 0) s || b) (go k (suc i)))
+
+  pub holds_four : (i : ℕ)
+      → (((eqb (get_or l i 0) s || eqb (get_or l (i + 1) 0) s) || eqb (get_or l (i + 2) 0) s) || eqb (get_or l (i + 3) 0) s) ≡ holds l i 4 s
+  holds_four i =
+      let q : i + 3 ≡ i + 2 + 1 = omega arith in
+      let assoc = or_assoc (eqb (get_or l i 0) s || eqb (get_or l (i + 1) 0) s) (eqb (get_or l (i + 2) 0) s) (eqb (get_or l (i + 2 + 1) 0) s) in
+      rw (q, assoc) (holds_more i 2 2 (holds-pair i) (holds-pair (i + 2)))
 
   -- k places without s are passed over
   pub spot_past : (n k i : ℕ) → holds l i k s ≡ false → i + k ≤ min n (length l) → spot (i + k) (drop (i + k) (take n l)) s ≡ spot i (drop i (take n l)) s
@@ -83,14 +91,15 @@ take_min n l = go (ltb n (length l)) refl
 
 -- ---- a visit
 
-pub visit-stopped : (limit : ℕ) (p : DPhyp) → (p.stop ≡ 0 → ⊥) → p ≡ visit_of limit p
+pub visit-stopped : (limit : ℕ) (p : DPhyp) → is_some p.stop ≡ true → p ≡ visit_of limit p
 unfolding visit_of
-visit-stopped limit p h = rw (ne_eqb _ _ h, visit_of)
+visit-stopped limit p h = rw (h, visit_of)
 
-pub visit_under : (limit : ℕ) (p : DPhyp) → p.stop ≡ 0 → p.visits < limit → counts p.plans p.memo (p.visits + 1) 0 ≡ visit_of limit p
+pub visit_under : (limit : ℕ) (p : DPhyp) → is_some p.stop ≡ false → p.visits < limit → counts p.plans p.memo (p.visits + 1) p.stop ≡ visit_of limit p
 unfolding visit_of
-visit_under limit p h l = rw (eq-eqb _ _ h, visit_of, lt-ltb _ _ l)
+visit_under limit p h l = rw (h, visit_of, lt-ltb _ _ l)
 
-pub visit_over : (limit : ℕ) (p : DPhyp) → p.stop ≡ 0 → limit ≤ p.visits → counts p.plans p.memo p.visits visits_spent ≡ visit_of limit p
+pub visit_over : (limit : ℕ) (p : DPhyp) → is_some p.stop ≡ false → limit ≤ p.visits
+    → counts p.plans p.memo p.visits (Some VisitsSpent) ≡ visit_of limit p
 unfolding visit_of
-visit_over limit p h l = rw (eq-eqb _ _ h, visit_of, le-ltb _ _ l)
+visit_over limit p h l = rw (h, visit_of, le-ltb _ _ l)

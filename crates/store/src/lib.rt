@@ -2,83 +2,78 @@
 #![tactic(auto)]
 
 mod estimates;
+mod lent;
 mod memo;
-mod numbers;
+mod places;
 mod sets;
 
-ghost use Rattle.std.specs.Prelude.{◌≡◌};
-ghost use Rattle.store.specs.Counts.{counts, visit_of};
+ghost use Rattle.std.specs.Prelude.{◌≡◌, None};
+ghost use Rattle.store.specs.Counts.{counts, visit_of, number_of};
 
-pub use estimates::{estimate_at, putf};
+pub use estimates::estimate_at;
+pub use lent::{Input, Lists};
 pub use memo::{is_kept, kept_plan};
-use nodeset::PlanId;
-pub use numbers::{at32, put32};
-pub use sets::{find, put64};
+pub use places::{at, put};
+pub use sets::find;
 
-// The search's counts: plans and memo entries written, and visits made. stop is 0 while the search goes on, and then its answer's number.
+// Why the search stopped before its end: a plan was due and the plan store was full, a set was new and the memo was full, or the next
+// visit would pass the limit. The numbers are the answers' own.
+#[derive(Clone, Copy)]
+pub enum Stop {
+    PlansFull = 12,
+    MemoFull = 13,
+    VisitsSpent = 14,
+}
+
+impl Stop {
+    // The answer's number for it.
+    // kept: a method, whose contract ties the cast to the definition's number.
+    pub fn number(self) -> u32
+        ensures { result ≡ number_of self }
+    {
+        self as u32
+    }
+}
+
+// The search's counts: plans and memo entries written, and visits made; and what stopped it, if anything did.
 #[derive(Clone, Copy)]
 pub struct DPhyp {
     pub plans: u32,
     pub memo: u32,
     pub visits: u32,
-    pub stop: u32,
-}
-
-// Where the memo has a set: at a position, or not.
-#[derive(Drop)]
-pub enum Found {
-    At(u32),
-    Nothing,
-}
-
-// The plan kept for a set.
-#[derive(Drop)]
-pub enum Kept {
-    Plan(PlanId),
-    Absent,
+    pub stop: Option<Stop>,
 }
 
 impl DPhyp {
-    pub const PLANS_FULL: u32 = 12;
-
-    pub const MEMO_FULL: u32 = 13;
-
-    pub const VISITS_SPENT: u32 = 14;
-
     // The search before its first visit, with a plan and a memo entry for each of n leaves.
     pub fn new(n: u32) -> Self
-        ensures { result ≡ counts n n 0 0 }
+        ensures { result ≡ counts n n 0 None }
     {
         Self {
             plans: n,
             memo: n,
             visits: 0,
-            stop: 0,
+            stop: None,
         }
     }
 
     // One visit more, or the stop at the limit.
+    #[tactic(auto, unfolding(crate::specs::Counts::visit_of))]
     pub fn visit(self, limit: u32) -> Self
         ensures { result ≡ visit_of limit self }
     {
-        let stop = self.stop;
-        let visits = self.visits;
-        if stop != 0 {
+        if self.stop.is_some() {
             return self;
         }
-        if visits < limit {
+        if self.visits < limit {
             return Self {
-                plans: self.plans,
-                memo: self.memo,
-                visits: visits + 1,
-                stop: 0,
+                visits: self.visits + 1,
+                ..self
             };
         }
         Self {
-            plans: self.plans,
-            memo: self.memo,
-            visits: visits,
-            stop: Self::VISITS_SPENT,
+            stop: Some(Stop::VisitsSpent),
+            ..self
         }
     }
 }

@@ -1,9 +1,12 @@
 -- The tables say no of a number above 7, so that a refusal may be read as no. Assumes nothing.
-use Rattle.std.specs.Prelude.{◌≡◌, refl, ◌⊎◌, Bool, true, false, ◌&&◌, ◌||◌, List, [], ◌∷◌, ℕ, ◌≤◌, ◌<◌, T, leb, eqb}
+use Rattle.std.specs.Prelude.{◌≡◌, refl, ◌⊎◌, Bool, true, false, ◌&&◌, ◌||◌, List, [], ◌∷◌, ℕ, ◌≤◌, ◌<◌, T, leb, eqb, Result, Ok, Err}
+use Rattle.std.specs.Result.{result_unwrap_or}
 use Rattle.std.proofs.Common.{sym, ap, ap₂, ◌∙◌, inl, inr, arith, leb-true, leb-false, ne_eqb}
 use Rattle.definition.specs.Lists.{member}
 use Rattle.definition.specs.Answers.{unknown_kind}
 use Rattle.definition.specs.Tables.{cell, refused, asked, pairs, assoc, l_asscom, r_asscom}
+use Rattle.conflict.specs.Views.{asked_of}
+use Rattle.conflict.specs.declared.UnknownType.{UnknownType}
 use Rattle.tes.specs.Views.{allows}
 
 -- every number is a type's
@@ -61,3 +64,18 @@ unfolding r_asscom
 allows_r_asscom a b =
     allows-asked r_asscom a b
     (λ h. rw (outside a b h (0 ∷ []) (0 ∷ []) tt tt, outside a b h (6 ∷ 7 ∷ []) (6 ∷ 7 ∷ []) tt tt))
+
+-- a table's answer, with no for a refusal
+unwrapped : (r : Result Bool UnknownType) → result_unwrap_or r false ≡ allows (asked_of r)
+unwrapped (Ok b) = refl
+unwrapped (Err e) = refl
+
+module _ (a b : ℕ) (r : Result Bool UnknownType) where
+  pub said_assoc : asked_of r ≡ asked assoc a b → result_unwrap_or r false ≡ assoc a b
+  said_assoc e = unwrapped r ∙ ap allows e ∙ allows-assoc a b
+
+  pub said_l_asscom : asked_of r ≡ asked l_asscom a b → result_unwrap_or r false ≡ l_asscom a b
+  said_l_asscom e = unwrapped r ∙ ap allows e ∙ allows_l_asscom a b
+
+  pub said_r_asscom : asked_of r ≡ asked r_asscom a b → result_unwrap_or r false ≡ r_asscom a b
+  said_r_asscom e = unwrapped r ∙ ap allows e ∙ allows_r_asscom a b

@@ -1,179 +1,155 @@
-// The total eligibility sets of a join: its two sides, widened by the earlier joins (cd_e_for_predicate of hypergraph.rs). Edges and
-// earlier joins are parallel slices, of which the first n and the first m places count.
+// The total eligibility sets of a join: its two sides, widened by the earlier joins (cd_e_for_predicate of hypergraph.rs).
 #![tactic(auto)]
 
-ghost use Rattle.std.specs.Prelude.{◌≡◌, ℕ, ◌≤◌, length};
-ghost use Rattle.conflict.specs.Views.{asked_of};
-ghost use Rattle.definition.specs.Tables.{assoc, l_asscom, r_asscom};
-ghost use Rattle.tes.specs.Views.{allows, Linked, Gained, WidenedLeft, WidenedRight, WidenedBy, Widened};
+ghost use Rattle.std.specs.Prelude.{◌≡◌, ℕ, length};
+ghost use Rattle.definition.specs.Edges.{record_of};
+ghost use Rattle.tes.specs.Views.{sides_of, Linked, Gained, WidenedSide, WidenedLeft, WidenedRight, WidenedBy, Widened, join_of, turned};
 
-use conflict::Compatibility;
+use connectivity::EdgeSides;
 
 // An earlier join: its type, the leaves of its two sides, and its record sets.
-#[derive(Clone, Copy)]
-struct JoinRecord {
-    join_type: u32,
-    left_nodes: u64,
-    right_nodes: u64,
-    tes_left: u64,
-    tes_right: u64,
+#[derive(Clone, Copy, Default)]
+pub struct JoinRecord {
+    // kept: any number is a type here, and one that is no type allows nothing.
+    pub join_type: u32,
+    pub left_nodes: u64,
+    pub right_nodes: u64,
+    pub tes_left: u64,
+    pub tes_right: u64,
 }
 
+// The sets of a join's two sides.
 #[derive(Clone, Copy)]
 pub struct Sides {
     pub left: u64,
     pub right: u64,
 }
 
-// Whether a table allows the reordering. It has no cell for a number that is no type, and allows none.
-fn allows(c: Compatibility) -> bool
-    ensures { result ≡ allows (asked_of c) }
-{
-    match c {
-        Compatibility::Cell(b) => b,
-        Compatibility::UnknownType => false,
+// A join that is built: its type and its whole sides.
+#[derive(Clone, Copy)]
+pub struct NewJoin {
+    // kept: any number is a type here, and one that is no type allows nothing.
+    pub join_type: u32,
+    pub whole: Sides,
+}
+
+impl JoinRecord {
+    // The join with its two sides exchanged.
+    fn turned(self) -> Self
+        ensures { join_of result ≡ turned (join_of self) }
+    {
+        Self {
+            join_type: self.join_type,
+            left_nodes: self.right_nodes,
+            right_nodes: self.left_nodes,
+            tes_left: self.tes_right,
+            tes_right: self.tes_left,
+        }
+    }
+
+    // Whether the edges so far connect the leaves from of this earlier join to our side to. Edges whose union is that of its record sets are
+    // passed over.
+    fn linked(self, edges: &EdgeSides<'_>, from: u64, to: u64) -> bool
+        ensures { Linked edges.now.left.now edges.now.right.now self from to result }
+    {
+        connectivity::connected(edges, from, to, self.tes_left | self.tes_right)
+    }
+
+    // s with add, where the table says no and the link is there. The edges are asked only where the table says no.
+    fn gained(
+        self,
+        edges: &EdgeSides<'_>,
+        allowed: bool,
+        from: u64,
+        to: u64,
+        add: u64,
+        s: u64,
+    ) -> u64
+        ensures { Gained edges.now.left.now edges.now.right.now allowed self from to add s result }
+    {
+        if !allowed && self.linked(edges, from, to) {
+            s | add
+        } else {
+            s
+        }
+    }
+
+    // The set s of our side that this join lies in, as its left side sees it. t: our type; across: our other side; asscom: what the table says
+    // that is asked beside assoc.
+    #[tactic(auto, using(crate::specs::TableLaws::said_assoc))]
+    fn widened_side(self, edges: &EdgeSides<'_>, t: u32, asscom: bool, across: u64, s: u64) -> u64
+        ensures { WidenedSide edges.now.left.now edges.now.right.now t asscom across self s result }
+    {
+        let assoc = conflict::assoc(self.join_type, t).unwrap_or(false);
+        let first = self.gained(edges, assoc, self.right_nodes, across, self.tes_left, s);
+        self.gained(
+            edges,
+            asscom,
+            self.left_nodes,
+            across,
+            self.tes_right,
+            first,
+        )
     }
 }
 
-fn assoc(a: u32, b: u32) -> bool
-    ensures { result ≡ assoc a b }
-{
-    allows(conflict::assoc(a, b))
-}
-
-fn l_asscom(a: u32, b: u32) -> bool
-    ensures { result ≡ l_asscom a b }
-{
-    allows(conflict::l_asscom(a, b))
-}
-
-fn r_asscom(a: u32, b: u32) -> bool
-    ensures { result ≡ r_asscom a b }
-{
-    allows(conflict::r_asscom(a, b))
-}
-
-// Whether the edges so far connect the leaves from of the earlier join j to our side to. Edges whose union is that of its record sets are
-// passed over.
-fn linked(left: &[u64], right: &[u64], n: usize, j: JoinRecord, from: u64, to: u64) -> bool
-    requires { (n ≤ length left.now) × (n ≤ length right.now) }
-    ensures { Linked n left.now right.now j from to result }
-{
-    connectivity::connected(left, right, n, from, to, j.tes_left | j.tes_right)
-}
-
-// s with add, where the table says no and the link is there. The edges are asked only where the table says no.
-fn gained(
-    left: &[u64],
-    right: &[u64],
-    n: usize,
-    allowed: bool,
-    j: JoinRecord,
-    from: u64,
-    to: u64,
-    add: u64,
-    s: u64,
-) -> u64
-    requires { (n ≤ length left.now) × (n ≤ length right.now) }
-    ensures { Gained n left.now right.now allowed j from to add s result }
-{
-    if allowed {
-        return s;
+impl NewJoin {
+    // The set s of our left side, widened by a join j inside that side.
+    // kept: beside its twin, as what they share is widened_side.
+    #[tactic(auto, using(crate::specs::TableLaws::said_l_asscom))]
+    fn widened_left(self, edges: &EdgeSides<'_>, j: JoinRecord, s: u64) -> u64
+        ensures { WidenedLeft edges.now.left.now edges.now.right.now self j s result }
+    {
+        let asscom = conflict::l_asscom(j.join_type, self.join_type).unwrap_or(false);
+        j.widened_side(edges, self.join_type, asscom, self.whole.right, s)
     }
-    if linked(left, right, n, j, from, to) {
-        return s | add;
-    }
-    s
-}
 
-// The set s of our left side, widened by a join j inside that side. t: this join's type; r: our right side.
-fn widened_left(left: &[u64], right: &[u64], n: usize, t: u32, r: u64, j: JoinRecord, s: u64) -> u64
-    requires { (n ≤ length left.now) × (n ≤ length right.now) }
-    ensures { WidenedLeft n left.now right.now t r j s result }
-{
-    let a = assoc(j.join_type, t);
-    let first = gained(left, right, n, a, j, j.right_nodes, r, j.tes_left, s);
-    let b = l_asscom(j.join_type, t);
-    gained(left, right, n, b, j, j.left_nodes, r, j.tes_right, first)
-}
-
-// The set s of our right side, widened by a join j inside that side. t: this join's type; l: our left side.
-fn widened_right(
-    left: &[u64],
-    right: &[u64],
-    n: usize,
-    t: u32,
-    l: u64,
-    j: JoinRecord,
-    s: u64,
-) -> u64
-    requires { (n ≤ length left.now) × (n ≤ length right.now) }
-    ensures { WidenedRight n left.now right.now t l j s result }
-{
-    let a = assoc(j.join_type, t);
-    let first = gained(left, right, n, a, j, j.left_nodes, l, j.tes_right, s);
-    let b = r_asscom(j.join_type, t);
-    gained(left, right, n, b, j, j.right_nodes, l, j.tes_left, first)
-}
-
-// Both sets, widened by one earlier join.
-fn widened(
-    left: &[u64],
-    right: &[u64],
-    n: usize,
-    t: u32,
-    l: u64,
-    r: u64,
-    j: JoinRecord,
-    s: Sides,
-) -> Sides
-    requires { (n ≤ length left.now) × (n ≤ length right.now) }
-    ensures { WidenedBy n left.now right.now t l r j s result }
-{
-    let both = j.left_nodes | j.right_nodes;
-    let mut a = s.left;
-    let mut b = s.right;
-    if nodeset::is_subset(both, l) {
-        a = widened_left(left, right, n, t, r, j, a);
+    // The set s of our right side, widened by a join j inside that side.
+    // kept: as widened_left.
+    fn widened_right(self, edges: &EdgeSides<'_>, j: JoinRecord, s: u64) -> u64
+        ensures { WidenedRight edges.now.left.now edges.now.right.now self j s result }
+    {
+        let asscom = conflict::r_asscom(j.join_type, self.join_type).unwrap_or(false);
+        j.turned()
+            .widened_side(edges, self.join_type, asscom, self.whole.left, s)
     }
-    if nodeset::is_subset(both, r) {
-        b = widened_right(left, right, n, t, l, j, b);
-    }
-    Sides { left: a, right: b }
-}
 
-// Each of the m earlier joins in turn, from the sets start on. t: this join's type; l and r: our whole sides.
-pub fn widen(
-    left: &[u64],
-    right: &[u64],
-    n: usize,
-    kind: &[u32],
-    left_nodes: &[u64],
-    right_nodes: &[u64],
-    tes_left: &[u64],
-    tes_right: &[u64],
-    m: usize,
-    t: u32,
-    l: u64,
-    r: u64,
-    start: Sides,
-) -> Sides
-    requires edges { (n ≤ length left.now) × (n ≤ length right.now) }
-    requires joins { (m ≤ length kind.now) × (m ≤ length left_nodes.now) × (m ≤ length right_nodes.now) × (m ≤ length tes_left.now) × (m ≤ length tes_right.now) }
-    ensures { Widened n left.now right.now t l r m kind.now left_nodes.now right_nodes.now tes_left.now tes_right.now start result }
-{
-    let mut s = start;
-    let mut i: usize = 0;
-    while i < m {
-        let j = JoinRecord {
-            join_type: kind[i],
-            left_nodes: left_nodes[i],
-            right_nodes: right_nodes[i],
-            tes_left: tes_left[i],
-            tes_right: tes_right[i],
-        };
-        s = widened(left, right, n, t, l, r, j, s);
-        i += 1;
+    // Both sets, widened by one earlier join.
+    fn widened(self, edges: &EdgeSides<'_>, j: JoinRecord, s: Sides) -> Sides
+        ensures { WidenedBy edges.now.left.now edges.now.right.now self j s result }
+    {
+        let both = j.left_nodes | j.right_nodes;
+        let mut x = s;
+        if nodeset::is_subset(both, self.whole.left) {
+            x.left = self.widened_left(edges, j, s.left);
+        }
+        if nodeset::is_subset(both, self.whole.right) {
+            x.right = self.widened_right(edges, j, s.right);
+        }
+        x
     }
-    s
+
+    // Its record, with these record sets.
+    pub fn record(self, tes: Sides) -> JoinRecord
+        ensures { join_of result ≡ record_of self.join_type self.whole.left self.whole.right (sides_of tes) }
+    {
+        JoinRecord {
+            join_type: self.join_type,
+            left_nodes: self.whole.left,
+            right_nodes: self.whole.right,
+            tes_left: tes.left,
+            tes_right: tes.right,
+        }
+    }
+
+    // Each of the earlier joins in turn, from the sets start on.
+    pub fn widen(self, edges: &EdgeSides<'_>, joins: &[JoinRecord], start: Sides) -> Sides
+        ensures { Widened edges.now.left.now edges.now.right.now self joins.now start result }
+    {
+        let mut s = start;
+        for j in joins {
+            s = self.widened(edges, *j, s);
+        }
+        s
+    }
 }

@@ -1,10 +1,10 @@
 -- The text made from the lent lists is the tried list, and the open-list rule holds of it. Assumes nothing.
 use Rattle.std.specs.Prelude.{◌≡◌, ℕ, zero, suc, ◌+◌, ◌-◌, ◌*◌, ◌^◌, ◌≤◌, ◌<◌, length, replicate, drop, eqb, Float}
 use Rattle.std.proofs.Math.Path.{refl}
-use Rattle.std.proofs.Common.{sym, ap, ap₂, ◌∙◌, zero-le, length-append, drop_of_length-le}
+use Rattle.std.proofs.Common.{sym, ap, ap₂, ◌∙◌, zero-le, drop_of_length-le}
 use mathlib.Core.List.{List, [], map}
 use native.Mathlib.Omega.{arith}
-use Rattle.std.proofs.lemmas.List.{length-replicate, length-map}
+use Rattle.std.proofs.lemmas.List.{length-replicate}
 use Rattle.definition.specs.Lists.{tabulate, column}
 use Rattle.definition.specs.Sheet.{Bytes, question_of, sheet_answer}
 use Rattle.definition.specs.Search.{Plan, Pair, Input}
@@ -21,6 +21,7 @@ use Rattle.listing.specs.TextLaws.{head_bound, lines_bound, text_length}
 use Rattle.listing.specs.ReadBack.{pairs_read}
 use Rattle.answer.specs.declared.Report.{Report}
 use Rattle.answer.specs.Answers.{reported}
+use Rattle.run.specs.RunLaws.{long}
 use Rattle.run.specs.Lent.{Lent, lent, rooms_in, holds}
 use Rattle.checks.specs.RoomLaws.{not_refused}
 use Rattle.tried_text.specs.Printed.{list_rooms, list_call, printed, longest_text, OpenText, leaves_passed, no_sets, side_of, text_from}
@@ -52,7 +53,8 @@ leaves_refused bs {n} e h = go (sheet_answer bs) e
 abbrev pairs_from : ℕ → List Plan → List ℕ → List ℕ → List ℕ → List Pair
 pairs_from n ps sr lr rr =
     let sets = column (λ (p : Plan). p.set) ps sr in
-    pairs_of (side_of sets n (length ps) (column (λ (p : Plan). p.left) ps lr)) (side_of sets n (length ps) (column (λ (p : Plan). p.right) ps rr)) (length ps - n)
+    pairs_of (side_of sets n (length ps) (column (λ (p : Plan). p.left) ps lr))
+    (side_of sets n (length ps) (column (λ (p : Plan). p.right) ps rr)) (length ps - n)
 
 -- of qualifying candidates
 candidates_printed : (i : Input) (ts : List Pair) (ps : List Plan) → Candidates i ts ps → (n : ℕ) → n ≡ length i.leaves → length ps ≤ 1088
@@ -78,7 +80,8 @@ module _ (bs : List ℕ) (bytes : Bytes bs) (sr lr rr : List ℕ) where
       let none : 0 - n ≡ 0 = omega arith in
       rw none (ap (map (pair_in [])) (sym (drop_of_length-le [] {i = m} zero-le)))
 
-  pairs-printed : length (list_call bs).plans ≤ 1088 → pairs_from (leaves_passed bs) (list_call bs).plans sr lr rr ≡ pairs_in (leaves_in bs) (list_call bs).plans
+  pairs-printed : length (list_call bs).plans ≤ 1088
+      → pairs_from (leaves_passed bs) (list_call bs).plans sr lr rr ≡ pairs_in (leaves_in bs) (list_call bs).plans
   pairs-printed h = go (refused_with bs list_rooms) refl
     where
       go : (n : ℕ) → refused_with bs list_rooms ≡ n → pairs_from (leaves_passed bs) (list_call bs).plans sr lr rr ≡ pairs_in (leaves_in bs) (list_call bs).plans
@@ -105,16 +108,18 @@ pub text_bound : (r : Report) (n : ℕ) (pset pleft pright : List ℕ) → r.ans
 unfolding text_from
 text_bound r n pset pleft pright a few v =
     let k = r.plans - n in
-    omega (arith, text_length (side_of pset n r.plans pleft) (side_of pset n r.plans pright) r.answer r.visits k, head_bound r.answer k r.visits a few v, lines_bound k (omega arith))
-
--- a field's list is no shorter than its entries
-entries_fit : {A : Type 0} (f : A → ℕ) (xs : List A) (l : List ℕ) → length xs ≤ length (column f xs l)
-entries_fit f xs l = omega (arith, length-append (map f xs) (drop (length xs) l), length-map xs f)
+    omega (
+      arith,
+      text_length (side_of pset n r.plans pleft) (side_of pset n r.plans pright) r.answer r.visits k,
+      head_bound r.answer k r.visits a few v,
+      lines_bound k (omega arith),
+    )
 
 -- the lists that the call is lent
 abbrev pub fresh : Float → Lent
 fresh z =
-    lent (replicate 256 0) (replicate 256 0) (replicate 256 0) (replicate 256 0) (replicate 256 0) no_sets no_sets no_sets no_sets no_sets (replicate 1088 z) (replicate 1088 z) (replicate 512 0) (replicate 512 0)
+    lent (replicate 256 0) (replicate 256 0) (replicate 256 0) (replicate 256 0) (replicate 256 0)
+    no_sets no_sets no_sets no_sets no_sets (replicate 1088 z) (replicate 1088 z) (replicate 512 0) (replicate 512 0)
 
 fresh-rooms : (z : Float) → rooms_in (fresh z) ≡ list_rooms
 unfolding store_length
@@ -130,7 +135,7 @@ module _ (bs : List ℕ) (bytes : Bytes bs) (z : Float) (l : Lent) {r : Report} 
   few_plans =
       let same : l.plans.pset ≡ column (λ (p : Plan). p.set) (list_call bs).plans no_sets =
       ap (λ (x : Lent). x.plans.pset) (lists ∙ ap (λ (o : Outcome). holds o (fresh z)) same_call) in
-      omega (arith, size, ap (λ (x : List ℕ). length x) same, entries_fit (λ (p : Plan). p.set) (list_call bs).plans no_sets)
+      omega (arith, size, ap (λ (x : List ℕ). length x) same, long (λ (p : Plan). p.set) (list_call bs).plans no_sets)
 
   pub text_is : {n : ℕ} → n ≡ leaves_passed bs → text_from r n l.plans.pset l.plans.pleft l.plans.pright ≡ printed bs
   unfolding text_from printed

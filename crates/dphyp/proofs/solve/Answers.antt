@@ -1,24 +1,21 @@
-use Rattle.std.specs.Prelude.{refl, ◌-◌}
-use Rattle.std.proofs.Common.{arith}
-use Rattle.candidate.specs.Store.{given}
-use Rattle.dphyp.specs.WalkLaws.{solve_next, solve_end}
-use Rattle.stepping.proofs.Stepping.{count_le}
+use Rattle.std.specs.Prelude.{◌≡◌}
+use Rattle.std.proofs.Common.{arith, sym, ◌∙◌, rules}
+use Rattle.candidate.specs.Lent.{given_of}
+use Rattle.dphyp.specs.WalkLaws.{solve_step, solve_stopped, solve_end}
 use Rattle.dphyp.proofs.solve.Goals as goal
 
-pub loop-k-init : goal.loop-k-init
-loop-k-init c = refl
+pub loop-j-preserved : goal.loop-j-preserved
+loop-j-preserved c = (
+  solve_step (given_of c.args.g.now) _ _ _ _ _ _ _ c.loop-j.invariant.0 c.loop-j-test.true c.nodeset_singleton-s1.ensures
+      c.all_nodes_mask-x.ensures c.solve_leaf-p.ensures.value,
+  search rules,
+)
 
-pub loop-k-smaller : goal.loop-k-smaller
-loop-k-smaller c = omega (arith, c.count_after-k.ensures, count_le (c.loop-k.k - 1) c.solve_leaf-r.result.stop, c.loop-k-test.true)
+pub returns-after-loop-j-clause-value : goal.returns-after-loop-j-clause-value
+returns-after-loop-j-clause-value c =
+    let done : c.loop-j.j ≡ 0 = omega (arith, c.loop-j-test.false) in
+    solve_end (given_of c.args.g.now) _ _ _ _ c.loop-j.invariant.0 done
 
-pub loop-k-preserved : goal.loop-k-preserved
-loop-k-preserved c =
-    let a = c.args in
-    let g = given a.n a.left.now a.right.now a.predicate.now a.source.now a.kinds.now a.selectivity.now a.proom a.mroom in
-    solve_next g a.limit a.leaves _ _ c.loop-k.k _ _ _ c.loop-k.invariant c.loop-k-test.true c.nodeset_singleton-s1.ensures c.all_nodes_mask-x.ensures c.solve_leaf-r.ensures c.count_after-k.ensures
-
-pub returns : goal.returns
-returns c =
-    let a = c.args in
-    let g = given a.n a.left.now a.right.now a.predicate.now a.source.now a.kinds.now a.selectivity.now a.proom a.mroom in
-    solve_end g a.limit a.leaves _ c.loop-k.k c.loop-k.invariant c.loop-k-test.false
+pub returns-then-is_some-clause-value : goal.returns-then-is_some-clause-value
+returns-then-is_some-clause-value c =
+    solve_stopped (given_of c.args.g.now) _ _ _ _ c.loop-j.invariant.0 (sym c.is_some.ensures ∙ c.if-is_some.true)

@@ -1,12 +1,16 @@
 use Rattle.std.specs.Prelude.{◌<◌, ◌^◌, ◌≡◌}
-use Rattle.candidate.specs.Store.{given, lists, store}
+use Rattle.candidate.specs.Store.{store}
+use Rattle.candidate.specs.Lent.{given_of, lists_of, SameLists}
 use Rattle.emit_csg.specs.Walks.{try_neighbor}
 use Rattle.definition.specs.Walk.{each}
 use Rattle.nodeset.specs.Subsets.{singletons}
 use Rattle.emit_csg.proofs.emit_csg.Given as goal
 
 abbrev pub invariant-loop-s : goal.invariant-loop-s
-invariant-loop-s l = (each (try_neighbor (given l.n l.left l.right l.predicate l.source l.kinds l.selectivity l.proom l.mroom) l.limit l.d l.s1 l.x) (singletons l.s) (store (lists l.pset l.pleft l.pright l.plead l.pkind l.prows l.pcost l.mset l.mplan) l.q) ≡ each (try_neighbor (given l.n l.left l.right l.predicate l.source l.kinds l.selectivity l.proom l.mroom) l.limit l.d l.s1 l.x) (singletons l.m) (store (lists l.initial.pset l.initial.pleft l.initial.pright l.initial.plead l.initial.pkind l.initial.prows l.initial.pcost l.initial.mset l.initial.mplan) l.initial.q)) × (l.s < 2 ^ 64)
+invariant-loop-s l =
+    let f = try_neighbor (given_of l.g) l.g.limit l.d l.s1 l.x in
+    (each f (singletons l.s) (store (lists_of l.l) l.p) ≡ each f (singletons l.m) (store (lists_of l.initial.l) l.initial.p))
+    × (l.s < 2 ^ 64) × SameLists l.initial.l l.l
 
 abbrev pub decreases-loop-s : goal.decreases-loop-s
 decreases-loop-s l = l.s

@@ -1,13 +1,17 @@
-use Rattle.candidate.specs.Store.{given, lists, store}
-use Rattle.enumerate_cmp.specs.WalkLaws.{stop_of}
-use Rattle.stepping.proofs.Stepping.{Passing, far}
+use Rattle.candidate.specs.Store.{store}
+use Rattle.candidate.specs.Lent.{given_of, lists_of, SameLists}
+use Rattle.stepping.proofs.Stepping.{far}
 use Rattle.enumerate_csg.specs.Walks.{visit_csg}
+use Rattle.enumerate_cmp.proofs.Loops.{Loop}
 use Rattle.definition.specs.Walk.{each}
 use Rattle.nodeset.specs.Subsets.{non_empty_subsets}
 use Rattle.enumerate_csg.proofs.+enumerate_csg_rec.Given as goal
 
 abbrev pub invariant-loop-t : goal.invariant-loop-t
-invariant-loop-t l = Passing stop_of (visit_csg (given l.n l.left l.right l.predicate l.source l.kinds l.selectivity l.proom l.mroom) l.limit l.e l.deeper l.s1 l.y) l.m (each (visit_csg (given l.n l.left l.right l.predicate l.source l.kinds l.selectivity l.proom l.mroom) l.limit l.e l.deeper l.s1 l.y) (non_empty_subsets l.m) (store (lists l.initial.pset l.initial.pleft l.initial.pright l.initial.plead l.initial.pkind l.initial.prows l.initial.pcost l.initial.mset l.initial.mplan) l.initial.q)) l.t (store (lists l.pset l.pleft l.pright l.plead l.pkind l.prows l.pcost l.mset l.mplan) l.q)
+invariant-loop-t l =
+    let f = visit_csg (given_of l.g) l.g.limit l.e l.deeper l.s1 l.y in
+    Loop f l.m (each f (non_empty_subsets l.m) (store (lists_of l.initial.l) l.initial.p)) l.t (store (lists_of l.l) l.p)
+    × SameLists l.initial.l l.l
 
 abbrev pub decreases-loop-t : goal.decreases-loop-t
 decreases-loop-t l = far l.m l.t

@@ -1,30 +1,49 @@
-use mathlib.Core.Path.{refl, sym, ◌∙◌}
+use mathlib.Core.Path.{sym, ◌∙◌}
 use mathlib.Core.List.{List}
 use Prim.Native.Nat.{ℕ}
 use native.Mathlib.Omega.{arith}
-use lib.ListN.{get_or}
+use lib.ListN.{length, get_or}
+use Rattle.std.proofs.lemmas.List.{length_push}
+use Rattle.std.proofs.lemmas.Slice.Zip.{zip_turn, zip_end}
 use Rattle.graph.specs.Laws.{has_here, has_on, has_end}
 use Rattle.graph.proofs.has_edge.Goals as goal
-
-pub loop-i-init : goal.loop-i-init
-loop-i-init c = (omega arith, λ p s t. refl)
 
 pub returns-then-connects : goal.returns-then-connects
 returns-then-connects c =
     let a = c.args in
-    let l = c.loop-i in
-    let at : List ℕ → ℕ = λ xs. get_or xs l.i 0 in
-    λ p s t. has_here a.n a.left.now a.right.now p s t a.a a.b l.i c.loop-i-test.true (sym (c.connects.ensures (at p) (at s) (at t)) ∙ c.if-connects.true) ∙ l.invariant.1 p s t
+    let e = a.edges.now in
+    let o = c.loop-l in
+    let i = length o.yielded in
+    let at : List ℕ → ℕ = λ xs. get_or xs i 0 in
+    let t =
+    zip_turn e.left.now e.right.now o.yielded c.into_iter-l-iterator.result o.l-iterator c.next.new.self c.next.result (cc) (cc)
+    o.yielded_by (c.in-Some.l, c.in-Some.r) c.in-Some.is c.next.ensures.steps in
+    λ p s u.
+    has_here (length e.left.now) e.left.now e.right.now p s u a.a a.b i t.0
+    (rw (← t.2 0, ← t.3 0) (sym (c.connects.ensures (at p) (at s) (at u)) ∙ c.if-connects.true))
+    ∙ o.invariant p s u
 
-pub loop-i-preserved : goal.loop-i-preserved
-loop-i-preserved c =
+pub loop-l-preserved : goal.loop-l-preserved
+loop-l-preserved c =
     let a = c.args in
-    let l = c.loop-i in
-    let at : List ℕ → ℕ = λ xs. get_or xs l.i 0 in
-    (omega arith, λ p s t. has_on a.n a.left.now a.right.now p s t a.a a.b l.i c.loop-i-test.true (sym (c.connects.ensures (at p) (at s) (at t)) ∙ c.if-connects.false) ∙ l.invariant.1 p s t)
+    let e = a.edges.now in
+    let o = c.loop-l in
+    let i = length o.yielded in
+    let at : List ℕ → ℕ = λ xs. get_or xs i 0 in
+    let t =
+    zip_turn e.left.now e.right.now o.yielded c.into_iter-l-iterator.result o.l-iterator c.next.new.self c.next.result (cc) (cc)
+    o.yielded_by (c.in-Some.l, c.in-Some.r) c.in-Some.is c.next.ensures.steps in
+    λ p s u.
+    rw length_push
+    (has_on (length e.left.now) e.left.now e.right.now p s u a.a a.b i t.0
+    (rw (← t.2 0, ← t.3 0) (sym (c.connects.ensures (at p) (at s) (at u)) ∙ c.if-connects.false))
+    ∙ o.invariant p s u)
 
 pub returns : goal.returns
 returns c =
-    let a = c.args in
-    let l = c.loop-i in
-    λ p s t. has_end a.n a.left.now a.right.now p s t a.a a.b l.i c.loop-i-test.false ∙ l.invariant.1 p s t
+    let e = c.args.edges.now in
+    let o = c.loop-l in
+    let t =
+    zip_end e.left.now e.right.now o.yielded c.into_iter-l-iterator.result o.l-iterator c.next.new.self c.next.result (cc) (cc)
+    o.yielded_by c.in-None.is c.next.ensures.steps in
+    λ p s u. has_end (length e.left.now) e.left.now e.right.now p s u c.args.a c.args.b (length o.yielded) (omega (arith, t, e.as_long)) ∙ o.invariant p s u

@@ -1,24 +1,31 @@
-use mathlib.Core.Path.{sym, ap, ap₂, ◌∙◌}
-use Prim.Native.Nat.{ℕ, ◌+◌}
+use mathlib.Core.Path.{sym, ◌∙◌}
 use native.Mathlib.Omega.{arith}
-use lib.ListN.{drop}
-use lib.Bits.{bit_or, or_zero_l}
-use Rattle.definition.specs.Hypergraph.{neighborhood}
-use Rattle.definition.specs.EdgeView.{edges_of}
+use lib.ListN.{length}
+use Rattle.std.proofs.lemmas.List.{length_push}
+use Rattle.std.proofs.lemmas.Slice.Zip.{zip_turn, zip_end}
 use Rattle.graph.specs.Laws.{nbr_step, nbr_end}
 use Rattle.graph.proofs.neighborhood.Goals as goal
 
-pub loop-i-init : goal.loop-i-init
-loop-i-init c = let a = c.args in (omega arith, λ p e t. or_zero_l (neighborhood (edges_of a.n a.left.now a.right.now p e t) a.s a.x))
-
-pub loop-i-preserved : goal.loop-i-preserved
-loop-i-preserved c =
+pub loop-l-preserved : goal.loop-l-preserved
+loop-l-preserved c =
     let a = c.args in
-    let l = c.loop-i in
-    (omega arith, λ p e t. ap (λ (z : ℕ). bit_or (bit_or l.found z) (neighborhood (drop (l.i + 1) (edges_of a.n a.left.now a.right.now p e t)) a.s a.x)) (ap₂ bit_or c.beyond.ensures c.beyond-in-loop-i.ensures) ∙ nbr_step a.n a.left.now a.right.now p e t a.s a.x l.found l.i c.loop-i-test.true ∙ l.invariant.1 p e t)
+    let e = a.edges.now in
+    let o = c.loop-l in
+    let i = length o.yielded in
+    let t =
+    zip_turn e.left.now e.right.now o.yielded c.into_iter-l-iterator.result o.l-iterator c.next.new.self c.next.result (cc) (cc)
+    o.yielded_by (c.in-Some.l, c.in-Some.r) c.in-Some.is c.next.ensures.steps in
+    λ p s u.
+    rw (length_push, c.beyond-in-loop-l.ensures, c.beyond.ensures, t.2 0, t.3 0)
+    (nbr_step (length e.left.now) e.left.now e.right.now p s u a.s a.x o.found i t.0 ∙ o.invariant p s u)
 
 pub returns : goal.returns
 returns c =
-    let a = c.args in
-    let l = c.loop-i in
-    λ p e t. sym (nbr_end a.n a.left.now a.right.now p e t a.s a.x l.found l.i c.loop-i-test.false) ∙ l.invariant.1 p e t
+    let e = c.args.edges.now in
+    let o = c.loop-l in
+    let t =
+    zip_end e.left.now e.right.now o.yielded c.into_iter-l-iterator.result o.l-iterator c.next.new.self c.next.result (cc) (cc)
+    o.yielded_by c.in-None.is c.next.ensures.steps in
+    λ p s u.
+    sym (nbr_end (length e.left.now) e.left.now e.right.now p s u c.args.s c.args.x o.found (length o.yielded) (omega (arith, t, e.as_long)))
+    ∙ o.invariant p s u

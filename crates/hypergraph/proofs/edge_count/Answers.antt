@@ -1,30 +1,19 @@
-use Prim.Native.Nat.{◌<◌}
 use native.Mathlib.Omega.{arith}
-use lib.ListN.{length}
 use Rattle.definition.specs.Sheet.{question_of}
 use Rattle.definition.proofs.SheetLaws.{length_items}
-use Rattle.hypergraph.specs.WalkLaws.{edges_step, edges_done}
+use Rattle.hypergraph.specs.WalkLaws.{edges_step, edges_done, item_within}
 use Rattle.hypergraph.proofs.edge_count.Goals as goal
-
-pub loop-i-init : goal.loop-i-init
-loop-i-init c = (omega arith, omega arith, omega arith)
-
-pub item_edges-edges-requires : goal.item_edges-edges-requires
-item_edges-edges-requires c = (c.requires, omega arith)
-
-pub overflow_add-edges : goal.overflow_add-edges
-overflow_add-edges c = omega (arith, c.requires.items_many, c.requires.framed.few_items, c.item_edges-edges.ensures.1)
 
 pub loop-i-preserved : goal.loop-i-preserved
 loop-i-preserved c =
+    let s = c.args.sheet.now in
     let o = c.loop-i in
-    let q = question_of c.args.sheet.now in
     let e = c.item_edges-edges.ensures in
-    let h : o.i < length q.items = omega (arith, c.requires.items_many, length_items c.args.sheet.now) in
-    (omega arith, omega (arith, e.1, o.invariant.1), omega (arith, e.0, edges_step q o.i h, o.invariant.2))
+    let step = edges_step (question_of s.bytes.now) o.i (item_within s.bytes.now s.sections o.i s.placed c.loop-i-test.true) in
+    (omega (arith, e.few, o.invariant.0), omega (arith, e.edges, step, o.invariant.1))
 
 pub returns : goal.returns
 returns c =
+    let s = c.args.sheet.now in
     let o = c.loop-i in
-    let q = question_of c.args.sheet.now in
-    omega (arith, edges_done q o.i (omega (arith, c.requires.items_many, length_items c.args.sheet.now)), o.invariant.2)
+    omega (arith, edges_done (question_of s.bytes.now) o.i (omega (arith, s.placed.items_many, length_items s.bytes.now, c.loop-i-test.false)), o.invariant.1)

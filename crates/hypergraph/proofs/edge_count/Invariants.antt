@@ -1,5 +1,5 @@
 use mathlib.Core.Path.{◌≡◌}
-use Prim.Native.Nat.{◌+◌, ◌*◌, ◌-◌, ◌≤◌}
+use Prim.Native.Nat.{◌+◌, ◌*◌, ◌≤◌}
 use lib.ListN.{drop}
 use Rattle.definition.specs.Question.{open_question}
 use Rattle.definition.specs.Sheet.{question_of}
@@ -7,7 +7,6 @@ use Rattle.definition.specs.Edges.{edge_count}
 use Rattle.hypergraph.proofs.edge_count.Given as goal
 
 abbrev pub invariant-loop-i : goal.invariant-loop-i
-invariant-loop-i l = (l.i ≤ l.n) × (l.edges ≤ 4294967296 * l.i) × (l.edges + edge_count (drop l.i (open_question (question_of l.sheet)).items) ≡ edge_count (open_question (question_of l.sheet)).items)
-
-abbrev pub decreases-loop-i : goal.decreases-loop-i
-decreases-loop-i l = l.n - l.i
+invariant-loop-i l =
+    let items = (open_question (question_of l.sheet.bytes.now)).items in
+    (l.edges ≤ 4294967296 * l.i) × (l.edges + edge_count (drop l.i items) ≡ edge_count items)

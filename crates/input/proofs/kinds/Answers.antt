@@ -1,39 +1,20 @@
-use mathlib.Core.Path.{◌≡◌, refl, sym, ap, ◌∙◌}
-use mathlib.Core.List.{map}
-use Prim.Native.Nat.{ℕ, ◌≤◌}
 use native.Mathlib.Omega.{arith}
-use lib.ListN.{length, take, length-set, length-map}
-use Rattle.definition.specs.Question.{Item}
+use Rattle.std.specs.Prelude.{◌≡◌, ◌<◌}
+use Rattle.definition.specs.Question.{Item, item}
 use Rattle.definition.specs.Sheet.{question_of}
 use Rattle.definition.proofs.SheetLaws.{length_items}
-use Rattle.input.specs.Laws.{take_all, filled}
+use borrow.Author.Rules.{rules}
+use Rattle.input.proofs.FromFn.{from_fn_same}
+use Rattle.input.specs.Laws.{filled}
 use Rattle.input.proofs.kinds.Goals as goal
 
-pub loop-i-init : goal.loop-i-init
-loop-i-init c = (omega arith, refl, refl)
-
-pub item_kind-requires : goal.item_kind-requires
-item_kind-requires c = (c.requires, omega arith)
-
-pub offset_bounds-r-i : goal.offset_bounds-r-i
-offset_bounds-r-i c = omega (arith, c.requires.items_many, c.requires.framed.few_items)
-
-pub bounds-r-i : goal.bounds-r-i
-bounds-r-i c = omega (arith, c.requires.items_many, c.requires.framed.few_items)
-
-pub loop-i-preserved : goal.loop-i-preserved
-loop-i-preserved c =
-    let o = c.loop-i in
-    let q = question_of c.args.sheet.now in (
-      omega arith,
-      length-set o.r o.i _ ∙ o.invariant.1,
-      filled (λ (x : Item). x.kind) q.items _ o.r o.i _ (omega (arith, c.requires.items_many, length_items c.args.sheet.now)) (omega (arith, c.requires.items_many, c.requires.framed.few_items, o.invariant.1)) c.item_kind.ensures o.invariant.2,
-    )
-
-pub returns : goal.returns
-returns c =
-    let o = c.loop-i in
-    let e : o.i ≡ c.args.s.items.count = omega arith in
-    let xs = map (λ (x : Item). x.kind) (question_of c.args.sheet.now).items in
-    let all : length xs ≤ o.i = omega (arith, length-map (question_of c.args.sheet.now).items (λ (x : Item). x.kind), length_items c.args.sheet.now, c.requires.items_many) in
-    record { size = o.invariant.1; kinds = ap (λ (k : ℕ). take k o.r) (sym e) ∙ o.invariant.2 ∙ take_all _ xs all }
+pub returns-clause-kinds : goal.returns-clause-kinds
+returns-clause-kinds c =
+    let s = c.args.sheet.now in
+    let q = question_of s.bytes.now in
+    let r = c.from_fn.ensures.items in
+    filled (λ (x : Item). x.kind) q.items _ c.from_fn.result s.sections.items.count
+    (omega (arith, length_items s.bytes.now, s.placed.items_many))
+    (omega (arith, r.long, s.placed.items_many, s.placed.framed.few_items))
+    (λ i h. from_fn_same _ (λ i y. i < s.sections.items.count → y ≡ (item q i).kind) _ (λ i y p k. search rules)
+    c.from_fn.result 0 127 r.each i 0 (omega arith) (omega (arith, s.placed.items_many, s.placed.framed.few_items)) h)

@@ -1,25 +1,30 @@
-use Rattle.run.specs.Lent.{lent}
-use Rattle.planner.proofs.CallLaws.{call-accepted, call_refuses, call_runs}
-use Rattle.checks.specs.RoomLaws.{rooms_eq}
+use Rattle.std.specs.Prelude.{◌≡◌, List, ℕ}
+use Rattle.std.proofs.Common.{refl}
+use Rattle.std.proofs.Math.Path.{subst}
+use Rattle.std.proofs.lemmas.Result.{err_from_is_err_and}
+use Rattle.definition.specs.Sheet.{question_of}
+use Rattle.definition.specs.Call.{input_of, searched}
+use Rattle.checks.specs.Answers.{rooms_of}
+use Rattle.answer.specs.Answers.{reported, ended_as}
+use Rattle.run.specs.Lent.{lent_of, holds}
+use Rattle.planner.proofs.CallLaws.{call_refuses, call_runs}
 use Rattle.planner.proofs.plan.Goals as goal
 
-pub run-requires : goal.run-requires
-run-requires c =
+pub returns-in_err-q-clause-planned : goal.returns-in_err-q-clause-planned
+returns-in_err-q-clause-planned c =
     let a = c.args in
-    let held = lent a.eleft.now a.eright.now a.epredicate.now a.esource.now a.ekind.now a.pset.now a.pleft.now a.pright.now a.plead.now a.pkind.now a.prows.now a.pcost.now a.mset.now a.mplan.now in
-    let same = rooms_eq c.edge_room.ensures c.plan_room.ensures c.memo_room.ensures in
-    let is = c.check.ensures.accepted _ c.in-Accepted.is in
-    record {
-      accepted = call-accepted a.sheet.now (λ i. (c.type_inv.sheet i).fits) a.limit _ held _ same c.check.ensures.number c.in-Accepted.is;
-      sections = is.0;
-      leaves = is.1;
-      rooms_are = same;
-    }
+    let h = lent_of a.edges.now a.lists.now in
+    let f = c.in_err-q.field-0.0 in
+    let exit = err_from_is_err_and c.from_residual.result c.from_residual.ensures.1 in
+    rw (exit.1, exit.2)
+    (call_refuses a.sheet.now (λ i. (c.type_inv.sheet i).fits) a.limit _ h (rooms_of c.of-rooms.result) c.of-rooms.ensures c.check.ensures.number {f = f} c.in_err-q.was)
 
-pub returns-in-Refused : goal.returns-in-Refused
-returns-in-Refused c =
-    call_refuses _ (λ i. (c.type_inv.sheet i).fits) _ _ _ _ (rooms_eq c.edge_room.ensures c.plan_room.ensures c.memo_room.ensures) c.check.ensures.number c.in-Refused.is
-
-pub returns-in-Accepted : goal.returns-in-Accepted
-returns-in-Accepted c =
-    call_runs _ (λ i. (c.type_inv.sheet i).fits) _ _ _ _ (rooms_eq c.edge_room.ensures c.plan_room.ensures c.memo_room.ensures) c.check.ensures.number c.in-Accepted.is _ _ c.run.ensures.answer c.run.ensures.lists
+pub returns-clause-planned : goal.returns-clause-planned
+returns-clause-planned c =
+    let a = c.args in
+    let h = lent_of a.edges.now a.lists.now in
+    let rooms = rooms_of c.of-rooms.result in
+    let same = (c.in_ok-q.ensures.accepted _ refl).0 in
+    call_runs a.sheet.now (λ i. (c.type_inv.sheet i).fits) a.limit _ h rooms c.of-rooms.ensures c.check.ensures.number c.in_ok-q.was _ _
+    (subst (λ (bs : List ℕ). ended_as c.run.result ≡ reported (searched (input_of (question_of bs) rooms a.limit))) same c.run.ensures.answer)
+    (subst (λ (bs : List ℕ). lent_of c.run.new.edges c.run.new.lists ≡ holds (searched (input_of (question_of bs) rooms a.limit)) h) same c.run.ensures.lists)

@@ -11,7 +11,8 @@ use Rattle.reading.proofs.read_full.Goals as goal
 grown : (a room n : ℕ) (xs ys : List ℕ) → a ≤ length xs → n ≤ length ys → take (a + n) (put_mid a room xs ys) ≡ take a xs ++ take n ys
 grown a room n xs ys within fits =
     let new = put_mid a room xs ys in
-    let behind : take n (drop a new) ≡ take n ys = ap (take n) (drop_at (take a xs) (ys ++ post_of a room xs) a (length-take-le a xs within)) ∙ take-append-le n ys (post_of a room xs) fits in
+    let behind : take n (drop a new) ≡ take n ys =
+    ap (take n) (drop_at (take a xs) (ys ++ post_of a room xs) a (length-take-le a xs within)) ∙ take-append-le n ys (post_of a room xs) fits in
     take-add a n new ∙ ap (λ l. l ++ take n (drop a new)) (take-put_mid_below _ _ _ _ _ (le_refl _) within) ∙ ap (λ l. take a xs ++ l) behind
 
 pub loop-done-preserved : goal.loop-done-preserved

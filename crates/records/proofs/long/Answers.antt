@@ -1,15 +1,10 @@
-use mathlib.Core.Path.{sym}
-use native.Mathlib.Omega.{arith}
-use Rattle.records.specs.RecordLaws.{long_there, long_past}
+use Rattle.std.proofs.Common.{◌∙◌, sym}
+use Rattle.records.specs.RecordLaws.{long_past}
+use Rattle.records.proofs.PartLaws.{long_of_part}
 use Rattle.records.proofs.long.Goals as goal
 
-pub returns-then-n-lt8 : goal.returns-then-n-lt8
-returns-then-n-lt8 c = sym (long_past _ _ (omega arith))
+pub returns-in-Some : goal.returns-in-Some
+returns-in-Some c = c.from_le_bytes.ensures ∙ long_of_part c.args.bytes.now c.in-Some.part.now c.args.at c.in-Some.ensures.0 c.in-Some.ensures.1
 
-pub returns-then-n-at : goal.returns-then-n-at
-returns-then-n-at c = sym (long_past _ _ (omega arith))
-
-pub returns : goal.returns
-returns c =
-    let a = c.args in
-    omega (arith, long_there a.bytes.now a.at (omega arith))
+pub returns-in-None : goal.returns-in-None
+returns-in-None c = sym (long_past c.args.bytes.now c.args.at c.in-None.ensures)

@@ -1,13 +1,10 @@
-use mathlib.Core.Path.{sym, ◌∙◌}
-use native.Mathlib.Omega.{arith}
-use Rattle.records.specs.RecordLaws.{word_there, word_past}
+use Rattle.std.proofs.Common.{◌∙◌, sym}
+use Rattle.records.specs.RecordLaws.{word_past}
+use Rattle.records.proofs.PartLaws.{word_of_part}
 use Rattle.records.proofs.word.Goals as goal
 
-pub returns-then-n-lt4 : goal.returns-then-n-lt4
-returns-then-n-lt4 c = sym (word_past _ _ (omega arith))
+pub returns-in-Some : goal.returns-in-Some
+returns-in-Some c = c.from_le_bytes.ensures ∙ word_of_part c.args.bytes.now c.in-Some.part.now c.args.at c.in-Some.ensures.0 c.in-Some.ensures.1
 
-pub returns-then-n-at : goal.returns-then-n-at
-returns-then-n-at c = sym (word_past _ _ (omega arith))
-
-pub returns : goal.returns
-returns c = c.word.ensures ∙ sym (word_there _ _ (omega arith))
+pub returns-in-None : goal.returns-in-None
+returns-in-None c = sym (word_past c.args.bytes.now c.args.at c.in-None.ensures)

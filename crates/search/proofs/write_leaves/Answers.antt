@@ -1,20 +1,20 @@
-use Rattle.std.proofs.Common.{arith, refl}
-use Rattle.search.specs.SearchLaws.{remaining_next, remaining_end}
+use Rattle.std.specs.Prelude.{◌≤◌, length, map}
+use Rattle.std.proofs.Common.{rules, arith}
+use Rattle.std.proofs.lemmas.List.{length-map}
+use Rattle.cost.specs.View.{leaf_of}
+use Rattle.search.specs.SearchLaws.{remaining_next, remaining_end, lent_leaf}
 use Rattle.search.proofs.write_leaves.Goals as goal
-
-pub loop-k-init : goal.loop-k-init
-loop-k-init c = (refl, omega arith)
 
 pub loop-k-preserved : goal.loop-k-preserved
 loop-k-preserved c =
-    let l = c.loop-k in
-    let a = c.args in (
-      remaining_next a.leaves a.rows.now a.columns.now _ _ l.k _ l.invariant.0 c.loop-k-test.true c.estimate_of-e.ensures c.write_leaf.ensures,
-      omega (arith, c.loop-k-test.true),
+    let ls = c.args.leaves.now in
+    let k = c.loop-k in (
+      remaining_next (map leaf_of ls) _ _ k.k _ _ k.invariant.0 (lent_leaf ls k.k _ c.loop-k-test.true) c.leaf_estimate-e.ensures c.write_leaf.ensures.value,
+      search rules,
     )
 
-pub returns : goal.returns
-returns c =
-    let l = c.loop-k in
-    let a = c.args in
-    remaining_end a.leaves a.rows.now a.columns.now _ l.k l.invariant.0 l.invariant.1 c.loop-k-test.false
+pub returns-clause-value : goal.returns-clause-value
+returns-clause-value c =
+    let ls = map leaf_of c.args.leaves.now in
+    let past : length ls ≤ c.loop-k.k = omega (arith, length-map c.args.leaves.now leaf_of) in
+    remaining_end ls _ c.loop-k.k c.loop-k.invariant.0 past

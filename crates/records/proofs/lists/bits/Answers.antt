@@ -1,19 +1,11 @@
 use Prim.Native.Nat.{◌*◌}
-use mathlib.Core.Bool.{true, false, not, false≢true}
+use mathlib.Core.Bool.{true, false, false≢true}
 use mathlib.Core.Path.{◌≡◌, refl, sym, ◌∙◌}
-use lib.Dec.{T}
 use borrow.Author.Tests.{eq-eqb}
-use lib.Ieee.{Float, nan, inf, fin, up, down, binary64, eq, is_nan, to_bits}
+use lib.Ieee.{Float, nan, inf, fin, up, down, binary64, eq, to_bits}
 use Rattle.records.proofs.lists.bits.Goals as goal
 
--- a NaN is not equal to itself
-no_nan : (x : Float) → eq x x ≡ true → T (not (is_nan x))
-unfolding eq is_nan
-no_nan nan e = absurd (false≢true e)
-no_nan (inf s) e = tt
-no_nan (fin s m k) e = tt
-
--- and is the only one
+-- a NaN alone is not equal to itself
 nan-bits : (x : Float) → eq x x ≡ false → 9221120237041090560 ≡ to_bits binary64 x
 unfolding eq to_bits
 nan-bits nan e = refl
@@ -21,9 +13,6 @@ nan-bits (inf true) e = absurd (false≢true (sym e))
 nan-bits (inf false) e = absurd (false≢true (sym e))
 nan-bits (fin true m k) e = absurd (false≢true (sym e ∙ rw (eq-eqb (m * up k * down k) (m * up k * down k) refl)))
 nan-bits (fin false m k) e = absurd (false≢true (sym e ∙ rw (eq-eqb (m * up k * down k) (m * up k * down k) refl)))
-
-pub float_to_bits-result : goal.float_to_bits-result
-float_to_bits-result c = no_nan c.args.x c.if-x.true
 
 pub returns-else-x : goal.returns-else-x
 returns-else-x c = nan-bits c.args.x c.if-x.false

@@ -1,73 +1,62 @@
-use mathlib.Core.Path.{◌≡◌, refl, sym, ◌∙◌}
+use mathlib.Core.Path.{◌≡◌, sym, ◌∙◌}
 use native.Mathlib.Omega.{arith}
 use Rattle.definition.specs.Sheet.{question_of}
-use Rattle.definition.proofs.SheetLaws.{header_answer, items_answer, predicates_answer, walk_answer, answer_header, answer_question, answer_items, answer_predicates, answer_walk, framed}
+use Rattle.definition.proofs.SheetLaws.{header_answer, items_answer, predicates_answer, walk_answer, framed}
+use Rattle.definition.proofs.SheetLaws.{answer_header, answer_question, answer_items, answer_predicates, answer_walk}
 use Rattle.sheet.specs.Placing.{placed}
-use Rattle.sheet_check.specs.AnswerLaws.{number_fails, number_passes, never_accepted, same_sections}
+use Rattle.sheet_check.specs.AnswerLaws.{fault_exits}
 use Rattle.sheet_check.proofs.checks.check.Goals as goal
 
-pub returns-in-Fail : goal.returns-in-Fail
-returns-in-Fail c =
+pub returns-in_err-check_header-clause-answer : goal.returns-in_err-check_header-clause-answer
+returns-in_err-check_header-clause-answer c =
     let bs = c.args.sheet.now in
-    let number = number_fails c.in-Fail.f refl c.in-Fail.ensures in
-    record { answer = number.0 ∙ sym (answer_header bs number.1); sections = λ s e. never_accepted e }
+    fault_exits c.from_residual.result c.in_err-check_header.field-0.0 c.from_residual.ensures.1 c.in_err-check_header.ensures (λ p. sym (answer_header bs p))
 
-pub sections_of-s-requires : goal.sections_of-s-requires
-sections_of-s-requires c =
+pub sections_of-requires : goal.sections_of-requires
+sections_of-requires c =
     let bs = c.args.sheet.now in
-    let header : header_answer bs ≡ 0 = number_passes c.in_default.is c.check_header.ensures in
-    omega (arith, (framed bs header).whole)
+    omega (arith, (framed bs (sym c.in_ok-check_header.ensures)).whole)
 
-pub check_items-requires : goal.check_items-requires
-check_items-requires c =
+pub invariant_of-read : goal.invariant_of-read
+invariant_of-read c =
     let bs = c.args.sheet.now in
-    let header : header_answer bs ≡ 0 = number_passes c.in_default.is c.check_header.ensures in
-    placed bs c.sections_of-s.result (framed bs header) c.sections_of-s.ensures
+    record { placed = placed bs c.sections_of.result (framed bs (sym c.in_ok-check_header.ensures)) c.sections_of.ensures }
 
-pub returns-in-Fail-check_items : goal.returns-in-Fail-check_items
-returns-in-Fail-check_items c =
+pub returns-in_err-check_items-clause-answer : goal.returns-in_err-check_items-clause-answer
+returns-in_err-check_items-clause-answer c =
     let bs = c.args.sheet.now in
-    let header : header_answer bs ≡ 0 = number_passes c.in_default.is c.check_header.ensures in
-    let number = number_fails c.in-Fail-check_items.f refl c.in-Fail-check_items.ensures in
-    record { answer = number.0 ∙ sym (answer_question bs header ∙ answer_items (question_of bs) number.1); sections = λ s e. never_accepted e }
+    let header : header_answer bs ≡ 0 = sym c.in_ok-check_header.ensures in
+    let e = c.in_err-check_items in
+    let exit = c.from_residual-in_err-check_items in
+    fault_exits exit.result e.field-0.0 exit.ensures.1 e.ensures
+    (λ p. sym (answer_question bs header ∙ answer_items (question_of bs) p))
 
-pub check_predicates-requires : goal.check_predicates-requires
-check_predicates-requires c =
+pub returns-in_err-check_predicates-clause-answer : goal.returns-in_err-check_predicates-clause-answer
+returns-in_err-check_predicates-clause-answer c =
     let bs = c.args.sheet.now in
-    let header : header_answer bs ≡ 0 = number_passes c.in_default.is c.check_header.ensures in
-    placed bs c.sections_of-s.result (framed bs header) c.sections_of-s.ensures
+    let header : header_answer bs ≡ 0 = sym c.in_ok-check_header.ensures in
+    let items : items_answer (question_of bs) ≡ 0 = sym c.in_ok-check_items.ensures in
+    let e = c.in_err-check_predicates in
+    let exit = c.from_residual-in_err-check_predicates in
+    fault_exits exit.result e.field-0.0 exit.ensures.1 e.ensures
+    (λ p. sym (answer_question bs header ∙ answer_predicates (question_of bs) items p))
 
-pub returns-in-Fail-check_predicates : goal.returns-in-Fail-check_predicates
-returns-in-Fail-check_predicates c =
+pub returns-in_err-check_walk-clause-answer : goal.returns-in_err-check_walk-clause-answer
+returns-in_err-check_walk-clause-answer c =
     let bs = c.args.sheet.now in
-    let header : header_answer bs ≡ 0 = number_passes c.in_default.is c.check_header.ensures in
-    let items : items_answer (question_of bs) ≡ 0 = number_passes c.in_default-check_items.is c.check_items.ensures in
-    let number = number_fails c.in-Fail-check_predicates.f refl c.in-Fail-check_predicates.ensures in
-    record { answer = number.0 ∙ sym (answer_question bs header ∙ answer_predicates (question_of bs) items number.1); sections = λ s e. never_accepted e }
+    let header : header_answer bs ≡ 0 = sym c.in_ok-check_header.ensures in
+    let items : items_answer (question_of bs) ≡ 0 = sym c.in_ok-check_items.ensures in
+    let predicates : predicates_answer (question_of bs) ≡ 0 = sym c.in_ok-check_predicates.ensures in
+    let e = c.in_err-check_walk in
+    let exit = c.from_residual-in_err-check_walk in
+    fault_exits exit.result e.field-0.0 exit.ensures.1 e.ensures
+    (λ p. sym (answer_question bs header ∙ answer_walk (question_of bs) items predicates))
 
-pub check_walk-requires : goal.check_walk-requires
-check_walk-requires c =
+pub returns-clause-answer : goal.returns-clause-answer
+returns-clause-answer c =
     let bs = c.args.sheet.now in
-    let header : header_answer bs ≡ 0 = number_passes c.in_default.is c.check_header.ensures in
-    placed bs c.sections_of-s.result (framed bs header) c.sections_of-s.ensures
-
-pub returns-in-Fail-check_walk : goal.returns-in-Fail-check_walk
-returns-in-Fail-check_walk c =
-    let bs = c.args.sheet.now in
-    let header : header_answer bs ≡ 0 = number_passes c.in_default.is c.check_header.ensures in
-    let items : items_answer (question_of bs) ≡ 0 = number_passes c.in_default-check_items.is c.check_items.ensures in
-    let predicates : predicates_answer (question_of bs) ≡ 0 = number_passes c.in_default-check_predicates.is c.check_predicates.ensures in
-    let number = number_fails c.in-Fail-check_walk.f refl c.in-Fail-check_walk.ensures in
-    record { answer = number.0 ∙ sym (answer_question bs header ∙ answer_walk (question_of bs) items predicates); sections = λ s e. never_accepted e }
-
-pub returns : goal.returns
-returns c =
-    let bs = c.args.sheet.now in
-    let header : header_answer bs ≡ 0 = number_passes c.in_default.is c.check_header.ensures in
-    let items : items_answer (question_of bs) ≡ 0 = number_passes c.in_default-check_items.is c.check_items.ensures in
-    let predicates : predicates_answer (question_of bs) ≡ 0 = number_passes c.in_default-check_predicates.is c.check_predicates.ensures in
-    let walk : walk_answer (question_of bs) ≡ 0 = number_passes c.in_default-check_walk.is c.check_walk.ensures in
-    record {
-      answer = sym (answer_question bs header ∙ answer_walk (question_of bs) items predicates ∙ walk);
-      sections = λ s e. same_sections e c.sections_of-s.ensures;
-    }
+    let header : header_answer bs ≡ 0 = sym c.in_ok-check_header.ensures in
+    let items : items_answer (question_of bs) ≡ 0 = sym c.in_ok-check_items.ensures in
+    let predicates : predicates_answer (question_of bs) ≡ 0 = sym c.in_ok-check_predicates.ensures in
+    let walk : walk_answer (question_of bs) ≡ 0 = sym c.in_ok-check_walk.ensures in
+    sym (answer_question bs header ∙ answer_walk (question_of bs) items predicates ∙ walk)

@@ -1,6 +1,6 @@
 use mathlib.Core.Path.{sym}
-use native.Mathlib.Omega.{arith}
-use Rattle.sheet_check.specs.HeaderLaws.{header_short, over_items, over_predicates, over_columns, items_misplaced, predicates_misplaced, columns_misplaced, length-misplaced, header_passes}
+use Rattle.sheet_check.specs.HeaderLaws.{header_short, over_items, over_predicates, over_columns, items_misplaced, predicates_misplaced}
+use Rattle.sheet_check.specs.HeaderLaws.{columns_misplaced, length-misplaced, header_passes}
 use Rattle.sheet_check.proofs.checks.check_header.Goals as goal
 
 pub returns-then-sheet-lt24 : goal.returns-then-sheet-lt24
@@ -41,9 +41,6 @@ returns-then-s-2 c =
     sym
     (columns_misplaced c.args.sheet.now c.sections_of-s.result c.sections_of-s.ensures c.if-sheet-lt24.false
     c.if-s-gt127.false c.if-s-gt256.false c.if-s-gt4096.false c.if-s-ne24.false c.if-s.false c.if-s-2.true)
-
-pub overflow_add-s-3 : goal.overflow_add-s-3
-overflow_add-s-3 c = omega (arith, c.if-s-gt127.false, c.if-s-gt256.false, c.if-s-gt4096.false, c.if-s-ne24.false, c.if-s.false, c.if-s-2.false)
 
 pub returns-then-sheet-s : goal.returns-then-sheet-s
 returns-then-sheet-s c =

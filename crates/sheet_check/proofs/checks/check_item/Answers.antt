@@ -23,13 +23,13 @@ inside bs s p x k g t e = sym (e ∙ ap₂ fits g (t ∙ ap (table_count s) k �
 
 pub returns-then-kind-gt9 : goal.returns-then-kind-gt9
 returns-then-kind-gt9 c =
-    let q = question_of c.args.sheet.now in
+    let q = question_of c.args.sheet.now.bytes.now in
     sym (item_unknown q (item q c.args.i) (omega arith))
 
 pub returns-then-reserved_is_set : goal.returns-then-reserved_is_set
 returns-then-reserved_is_set c =
     let a = c.args in
-    let q = question_of a.sheet.now in
+    let q = question_of a.sheet.now.bytes.now in
     let x = item q a.i in
     let kind = c.item_kind-kind.ensures in
     let range = c.item_range-r.ensures in
@@ -40,23 +40,23 @@ returns-then-reserved_is_set c =
 pub returns-then-fits : goal.returns-then-fits
 returns-then-fits c =
     let a = c.args in
-    let q = question_of a.sheet.now in
+    let q = question_of a.sheet.now.bytes.now in
     let x = item q a.i in
     let kind = c.item_kind-kind.ensures in
     let range = c.item_range-r.ensures in
     let known : x.kind ≤ 9 = omega arith in
     let set = reserved x kind c.item_rows-rows.ensures.0 range c.reserved_is_set.ensures in
-    let fit = inside a.sheet.now a.s c.requires.0 x kind range c.table_count-table.ensures c.fits.ensures in
+    let fit = inside a.sheet.now.bytes.now a.sheet.now.sections a.sheet.now.placed x kind range c.table_count-table.ensures c.fits.ensures in
     sym (item-fits q x known (set ∙ c.if-reserved_is_set.false) (fit ∙ c.if-fits.true))
 
 pub returns-else-fits : goal.returns-else-fits
 returns-else-fits c =
     let a = c.args in
-    let q = question_of a.sheet.now in
+    let q = question_of a.sheet.now.bytes.now in
     let x = item q a.i in
     let kind = c.item_kind-kind.ensures in
     let range = c.item_range-r.ensures in
     let known : x.kind ≤ 9 = omega arith in
     let set = reserved x kind c.item_rows-rows.ensures.0 range c.reserved_is_set.ensures in
-    let fit = inside a.sheet.now a.s c.requires.0 x kind range c.table_count-table.ensures c.fits.ensures in
+    let fit = inside a.sheet.now.bytes.now a.sheet.now.sections a.sheet.now.placed x kind range c.table_count-table.ensures c.fits.ensures in
     sym (item_past q x known (set ∙ c.if-reserved_is_set.false) (fit ∙ c.if-fits.false))

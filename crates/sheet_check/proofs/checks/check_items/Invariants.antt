@@ -1,5 +1,4 @@
 use mathlib.Core.Path.{◌≡◌}
-use Prim.Native.Nat.{◌-◌, ◌≤◌}
 use lib.ListN.{drop}
 use Rattle.definition.specs.Lists.{concat_map}
 use Rattle.definition.specs.Sheet.{question_of, first_failing, item_checks}
@@ -8,8 +7,5 @@ use Rattle.sheet_check.proofs.checks.check_items.Given as goal
 
 -- the checks from item i on give the answer of all
 abbrev pub invariant-loop-i : goal.invariant-loop-i
-invariant-loop-i l = (l.i ≤ l.n)
-    × (first_failing (concat_map (item_checks (question_of l.sheet)) (drop l.i (question_of l.sheet).items)) ≡ items_answer (question_of l.sheet))
-
-abbrev pub decreases-loop-i : goal.decreases-loop-i
-decreases-loop-i l = l.n - l.i
+invariant-loop-i l = first_failing (concat_map (item_checks (question_of l.sheet.bytes.now)) (drop l.i (question_of l.sheet.bytes.now).items))
+    ≡ items_answer (question_of l.sheet.bytes.now)

@@ -1,8 +1,0 @@
-use mathlib.Core.Path.{ap, ◌∙◌}
-use Prim.Native.Nat.{min}
-use Rattle.definition.specs.Call.{store_length}
-use Rattle.checks.proofs.edge_room.Goals as goal
-
-pub returns : goal.returns
-unfolding store_length
-returns c = c.shorter.ensures ∙ ap (min _) c.shortest.ensures.0

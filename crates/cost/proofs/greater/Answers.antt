@@ -1,8 +1,0 @@
-use Rattle.definition.specs.Cost.{greater}
-use Rattle.cost.proofs.greater.Goals as goal
-
-pub returns-then-x-y : goal.returns-then-x-y
-returns-then-x-y c = rw (c.if-x-y.true, greater)
-
-pub returns-else-x-y : goal.returns-else-x-y
-returns-else-x-y c = rw (c.if-x-y.false, greater)

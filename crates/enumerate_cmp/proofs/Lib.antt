@@ -1,0 +1,2 @@
+-- The loops over subsets.
+pub mod Loops
