@@ -42,6 +42,7 @@ impl From<Answer> for Report {
     ghost from_gives = { λ a r. r ≡ reported_of a };
 
     // After a refusal the counts are 0, and no plan is chosen.
+    // kept: the counts one by one; as a struct inside Outcome and Report they would be other fields than those that callers read.
     fn from(answer: Answer) -> Report {
         match answer {
             Ok(o) => Report {

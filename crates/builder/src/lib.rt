@@ -51,7 +51,8 @@ impl HypergraphBuilder {
     }
 
     // One edge more: its sides, its predicate, its source item and its type.
-    // kept: any number is a type here.
+    // kept: any number was taken as a type, and is written as it is: an enum would ask more of callers. SameEdgeLists and Added speak of before and
+    // after, which no fact of a type does.
     #[tactic(auto, using(crate::specs::Laws::edges_more))]
     pub fn add_edge(
         &mut self,

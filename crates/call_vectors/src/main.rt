@@ -7,6 +7,7 @@ ghost use Rattle.std.specs.Prelude.{◌*◌, ◌<◌, ◌≤◌};
 
 use answer::Report;
 use builder::EdgeLists;
+use planner::{EdgeArrays, ListArrays};
 use records::Places;
 use std::io;
 use store::Lists;
@@ -112,40 +113,15 @@ fn agrees(words: &[u8], r: Report, edges: &EdgeLists<'_>, lists: &Lists<'_>) -> 
 }
 
 // Whether the recorded call, over lists that hold nothing but the pattern, replies and leaves what the record has.
-// kept: the arrays stand in the frame that lends them, as in tried_text; their lengths differ.
 fn replayed(record: &[u8]) -> bool {
-    let mut eleft = [records::LONG; 256];
-    let mut eright = [records::LONG; 256];
-    let mut epredicate = [records::WORD; 256];
-    let mut esource = [records::WORD; 256];
-    let mut ekind = [records::WORD; 256];
-    let mut pset = [records::LONG; 1088];
-    let mut pleft = [records::WORD; 1088];
-    let mut pright = [records::WORD; 1088];
-    let mut plead = [records::WORD; 1088];
-    let mut pkind = [records::WORD; 1088];
-    let mut prows = [records::NUMBER; 1088];
-    let mut pcost = [records::NUMBER; 1088];
-    let mut mset = [records::LONG; 512];
-    let mut mplan = [records::WORD; 512];
-    let mut edges = EdgeLists {
-        left: &mut eleft,
-        right: &mut eright,
-        predicate: &mut epredicate,
-        source: &mut esource,
-        kind: &mut ekind,
-    };
-    let mut lists = Lists {
-        pset: &mut pset,
-        pleft: &mut pleft,
-        pright: &mut pright,
-        plead: &mut plead,
-        pkind: &mut pkind,
-        prows: &mut prows,
-        pcost: &mut pcost,
-        mset: &mut mset,
-        mplan: &mut mplan,
-    };
+    let mut edge_arrays = EdgeArrays::<256>::new(records::LONG, records::WORD);
+    let mut list_arrays = ListArrays::<1088, 512>::new(
+        records::LONG,
+        records::WORD,
+        records::NUMBER,
+    );
+    let mut edges = edge_arrays.lend();
+    let mut lists = list_arrays.lend();
     let r = call(record, &mut edges, &mut lists);
     agrees(records::after_sheet(record), r, &edges, &lists)
 }

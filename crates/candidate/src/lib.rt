@@ -8,7 +8,7 @@ ghost use Rattle.candidate.specs.Store.{kind_of, lead_kind, place_of, Decides};
 ghost use Rattle.candidate.specs.Lent.{given_of};
 
 use cost::Estimate;
-use nodeset::PlanId;
+use nodeset::{CROSS_PRODUCT, INNER, PlanId};
 use store::{DPhyp, Input, Stop};
 
 // A candidate's memo entry: its position, the plan that it is to name, and the number of entries with it.
@@ -47,42 +47,42 @@ fn candidate_kind(filters: bool, k: u32) -> u32
     ensures { result ≡ kind_of filters k }
 {
     match (filters, k) {
-        (false, _) => 8,
-        (true, 8) => 0,
+        (false, _) => CROSS_PRODUCT,
+        (true, CROSS_PRODUCT) => INNER,
         (true, _) => k,
     }
 }
 
 // The kind of the lead edge's source item.
-// kept: two lent lists of numbers, of which one says where to look in the other.
-fn lead_kind(source: &[u32], kinds: &[u32], lead: u32) -> u32
-    ensures { result ≡ lead_kind source.now kinds.now lead }
+// kept: the edge and the kind are numbers, as the lent lists hold them.
+fn lead_kind(g: &Input<'_>, lead: u32) -> u32
+    ensures { result ≡ lead_kind g.now.edges.source.now g.now.kinds.now lead }
 {
-    store::at(kinds, store::at(source, lead, 0), 0)
+    store::at(g.kinds, store::at(g.edges.source, lead, 0), 0)
 }
 
-// The memo's entry for plan number n of the set s, with this estimate; none where the set is new and the memo has no room.
-// kept: the count memo and the slices as in store's kept_plan.
+// The memo's entry for the next plan, of the set s and with this estimate; none where the set is new and the memo has no room.
+// kept: shared slices, so that lists lent for reading alone will do.
 #[tactic(auto, unfolding(crate::specs::Store::place_of))]
 fn find_place(
+    g: &Input<'_>,
     prows: &[f64],
     pcost: &[f64],
     mset: &[u64],
     mplan: &[u32],
-    memo: u32,
-    room: u32,
-    n: PlanId,
     s: u64,
     e: Estimate,
+    p: DPhyp,
 ) -> Option<Place>
-    ensures { result ≡ place_of prows.now pcost.now mplan.now memo room n.0 (estimate_of e) (spot 0 (take memo mset.now) s) }
+    ensures { result ≡ place_of prows.now pcost.now mplan.now p.memo g.now.memo_room p.plans (estimate_of e) (spot 0 (take p.memo mset.now) s) }
 {
-    let Some(i) = store::find(mset, memo, s) else {
-        if memo < room {
+    let n = PlanId(p.plans);
+    let Some(i) = store::find(mset, p.memo, s) else {
+        if p.memo < g.memo_room {
             return Some(Place {
-                position: memo,
+                position: p.memo,
                 best: n,
-                entries: memo + 1,
+                entries: p.memo + 1,
             });
         }
         return None;
@@ -95,8 +95,8 @@ fn find_place(
     };
     Some(Place {
         position: i,
-        best: best,
-        entries: memo,
+        best,
+        entries: p.memo,
     })
 }
 
@@ -133,10 +133,9 @@ pub fn decide(
     if p.plans >= g.plan_room {
         return Due::Stop(Stop::PlansFull);
     }
-    let kind = candidate_kind(c.filters, lead_kind(g.edges.source, g.kinds, lead));
+    let kind = candidate_kind(c.filters, lead_kind(g, lead));
     let e = cost::candidate_estimate(kind, x, y, c.rows);
-    let n = PlanId(p.plans);
-    let Some(place) = find_place(prows, pcost, mset, mplan, p.memo, g.memo_room, n, a | b, e) else {
+    let Some(place) = find_place(g, prows, pcost, mset, mplan, a | b, e, p) else {
         return Due::Stop(Stop::MemoFull);
     };
     Due::Make(Candidate {

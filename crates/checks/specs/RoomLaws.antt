@@ -1,7 +1,7 @@
 -- The lengths of the stores, and what a call that is not refused has room for. Assumes nothing.
-use Rattle.std.specs.Prelude.{◌≡◌, Bool, ◌||◌, List, [], ◌∷◌, ◌++◌, ℕ, zero, suc, ◌+◌, ◌≤◌, ◌<◌, min, length, get_or, drop}
-use Rattle.std.proofs.Math.Path.{refl, ap}
-use Rattle.std.proofs.Common.{ap₂, ◌∙◌, arith, add-one, drop-cons, drop_of_length-le}
+use Rattle.std.specs.Prelude.{◌≡◌, Bool, ◌||◌, List, [], ◌∷◌, ◌++◌, ℕ, zero, suc, ◌≤◌, ◌<◌, min, fold}
+use Rattle.std.proofs.Math.Path.{refl}
+use Rattle.std.proofs.Common.{ap₂, ◌∙◌, arith}
 use Rattle.std.proofs.Math.Bool.{true, false}
 use Rattle.std.proofs.Math.Dec.{ltb}
 use borrow.Author.Tests.{ltb-false, lt-ltb, le-ltb}
@@ -28,17 +28,11 @@ unfolding store_length
 store_bound [] = omega arith
 store_bound (n ∷ ns) = omega (arith, store_bound ns)
 
--- the lengths from place i on, one by one
-pub store_step : (ns : List ℕ) (i s t : ℕ) → i < length ns → t ≡ min s (get_or ns i 0)
-    → min t (store_length (drop (i + 1) ns)) ≡ min s (store_length (drop i ns))
+-- the shortest of some lengths, each compared with the shortest before it
+pub store_fold : (ns : List ℕ) (s : ℕ) → s ≤ 16777216 → fold min s ns ≡ min s (store_length ns)
 unfolding store_length
-store_step ns i s t h e =
-    let first : store_length (drop i ns) ≡ min (get_or ns i 0) (store_length (drop (i + 1) ns)) = rw add-one (ap store_length (drop-cons ns i 0 h)) in
-    omega (arith, first, e)
-
-pub store_end : (ns : List ℕ) (i : ℕ) → length ns ≤ i → store_length (drop i ns) ≡ 16777216
-unfolding store_length
-store_end ns i h = ap store_length (drop_of_length-le ns h)
+store_fold [] s h = omega arith
+store_fold (n ∷ ns) s h = store_fold ns (min s n) (omega arith) ∙ omega arith
 
 pub rooms_eq : {a b c d e f : ℕ} → a ≡ d → b ≡ e → c ≡ f
     → ◌≡◌ {A = Rooms} (record { edges = a; plans = b; memo = c }) (record { edges = d; plans = e; memo = f })

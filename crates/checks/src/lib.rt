@@ -27,7 +27,7 @@ pub enum Refusal {
 
 impl Refusal {
     // Document 01's number for it.
-    // kept: a match, since a sheet's refusal has its fault's number.
+    // kept: a method, as Fault's number; a match, since a sheet's refusal has its fault's number.
     pub fn number(self) -> u32
         ensures { result ≡ refusal_number self }
     {

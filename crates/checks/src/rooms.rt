@@ -53,9 +53,7 @@ impl Rooms {
 pub fn store_length(lengths: &[usize]) -> u32
     ensures { result ≡ call.store_length lengths.now }
 {
-    let mut shortest = Rooms::LONGEST;
-    for n in lengths {
-        shortest = shortest.min(*n);
-    }
-    shortest as u32
+    lengths
+        .iter()
+        .fold(Rooms::LONGEST, |shortest, n| shortest.min(*n)) as u32
 }

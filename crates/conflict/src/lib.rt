@@ -57,7 +57,7 @@ impl HyperedgeJoinType {
     }
 
     // The type's number.
-    // kept: a method, whose contract ties the cast to the definition's number.
+    // kept: a method. `From` for u32 would say the same in more lines, and `u32::from(t)` wouldn't say that the number is document 01's.
     pub fn number(self) -> u32
         ensures { result ≡ type_number self }
     {
@@ -87,7 +87,7 @@ impl TryFrom<u32> for HyperedgeJoinType {
 }
 
 impl Table {
-    // kept: a method, whose contract ties the cast to the definition's place.
+    // kept: a method. `usize::from(table)` wouldn't say that it is the place in TABLES.
     fn place(self) -> usize
         ensures { result ≡ place self }
     {
@@ -111,7 +111,7 @@ fn allows(table: Table, a: HyperedgeJoinType, b: HyperedgeJoinType) -> bool
 }
 
 // What a table says of the types with the numbers a, b.
-// kept: any two numbers may be asked, of this and of the three below.
+// kept: numbers, as the three below take them.
 fn ask(table: Table, a: u32, b: u32) -> Result<bool, UnknownType>
     ensures { asked_of result ≡ asked (table_at (place table)) a b }
 {
@@ -121,7 +121,7 @@ fn ask(table: Table, a: u32, b: u32) -> Result<bool, UnknownType>
 }
 
 // Whether the table allows (x a y) b z to become x a (y b z), for joins of the types with the numbers a, b.
-// kept: any two numbers may be asked.
+// kept: the Rust's three names over one body, ask. Any number was taken, and one that is no type's has an answer: an enum would ask more of callers.
 pub fn assoc(a: u32, b: u32) -> Result<bool, UnknownType>
     ensures { asked_of result ≡ asked assoc a b }
 {
@@ -129,7 +129,7 @@ pub fn assoc(a: u32, b: u32) -> Result<bool, UnknownType>
 }
 
 // Whether the table allows (x a y) b z to become (x b z) a y, for joins of the types with the numbers a, b.
-// kept: any two numbers may be asked.
+// kept: as assoc.
 pub fn l_asscom(a: u32, b: u32) -> Result<bool, UnknownType>
     ensures { asked_of result ≡ asked l_asscom a b }
 {
@@ -137,7 +137,7 @@ pub fn l_asscom(a: u32, b: u32) -> Result<bool, UnknownType>
 }
 
 // Whether the table allows x a (y b z) to become y b (x a z), for joins of the types with the numbers a, b.
-// kept: any two numbers may be asked.
+// kept: as assoc.
 pub fn r_asscom(a: u32, b: u32) -> Result<bool, UnknownType>
     ensures { asked_of result ≡ asked r_asscom a b }
 {

@@ -22,11 +22,7 @@ impl Classes {
     fn own() -> Self
         ensures { result.0 ≡ own_classes }
     {
-        let mut classes = [0u64; 64];
-        for i in 0..64 {
-            classes[i] = 1u64 << i;
-        }
-        Self(classes)
+        Self(std::array::from_fn(|i| 1u64 << i))
     }
 
     // Whether s lies in one class.

@@ -3,12 +3,12 @@
 
 mod edges;
 
-ghost use Rattle.std.specs.Prelude.{◌≡◌, ◌<◌, ◌&&◌, length, get_or, IfSome, Some};
+ghost use Rattle.std.specs.Prelude.{◌≡◌, ◌<◌, ◌&&◌, ℕ, length, get_or, IfSome, Some};
 ghost use Rattle.std.specs.Option.{option_or};
 ghost use Rattle.nodeset.specs.Sets.{within};
 ghost use Rattle.definition.specs.Cost.{whole, leaf_estimate, product, lesser, greater, capped, rows_by_kind, candidate_rows, candidate_from, cheaper};
-ghost use Rattle.definition.specs.EdgeWalkLaws.{rows_after, with_edge};
-ghost use Rattle.cost.specs.View.{estimate_of, connection_of, Connects, Connected};
+ghost use Rattle.definition.specs.EdgeWalkLaws.{with_edge};
+ghost use Rattle.cost.specs.View.{estimate_of, connection_of, predicate_from, rows_with, Connects, Connected};
 
 pub use edges::Edges;
 use nodeset::{NONE, PredicateId};
@@ -41,12 +41,10 @@ pub struct Connection {
 }
 
 // The nearest f64.
-// kept: a cast is proved exact up to 2^53 only, so the two halves are added.
-#[tactic(auto, using(crate::proofs::Floats::whole_halves))]
 fn whole(n: u64) -> f64
     ensures { result ≡ whole n }
 {
-    (n / 4294967296) as f64 * 4294967296.0 + (n % 4294967296) as f64
+    std::num::nearest_u64_to_f64(n)
 }
 
 // A leaf without columns counts as one with a column.
@@ -83,12 +81,11 @@ fn greater(x: f64, y: f64) -> f64
 }
 
 // At most the ceiling.
-// kept: as lesser.
-#[tactic(auto, using(crate::proofs::Floats::over, crate::proofs::Floats::not_over))]
+#[tactic(auto, using(crate::proofs::Floats::ceiling_bits))]
 fn capped(x: f64) -> f64
     ensures { result ≡ capped x }
 {
-    if x > CEILING { CEILING } else { x }
+    lesser(CEILING, x)
 }
 
 // filtered: the estimate after the selectivities; left, right: the rows of the candidate's own two plans.
@@ -154,36 +151,37 @@ fn selectivity_of(selectivities: &[u32], p: PredicateId) -> u32
     selectivities.get(p.0 as usize).copied().unwrap_or(0)
 }
 
-// kept: no predicate is the number NONE, as the lent list of predicates holds it.
-#[tactic(auto, unfolding(definition::specs::EdgeWalkLaws::rows_after), using(crate::proofs::Floats::full_bits))]
-fn rows_after(selectivities: &[u32], p: PredicateId, rows: f64) -> f64
-    ensures { result ≡ rows_after selectivities.now p.0 rows }
+#[tactic(auto, using(crate::proofs::Floats::full_bits))]
+fn rows_after(selectivities: &[u32], p: Option<PredicateId>, rows: f64) -> f64
+    ensures { result ≡ rows_with selectivities.now p rows }
 {
-    if p.0 == NONE {
-        return rows;
-    }
-    rows * (selectivity_of(selectivities, p) as f64 / 65536.0)
+    p.map_or(
+        rows,
+        |p| rows * (selectivity_of(selectivities, p) as f64 / 65536.0),
+    )
+}
+
+// The predicate of edge i, if it has one. Past the end it is 0.
+// kept: the definition reads 0 there.
+fn predicate_of(predicates: &[u32], i: usize) -> Option<PredicateId>
+    ensures { result ≡ predicate_from (get_or predicates.now i 0) }
+{
+    let p = predicates.get(i).copied().unwrap_or(0);
+    (p != NONE).then_some(PredicateId(p))
 }
 
 // With one connecting edge more: number i, with the predicate p.
-#[tactic(auto, unfolding(definition::specs::EdgeWalkLaws::with_edge))]
-fn with_edge(selectivities: &[u32], i: u32, p: PredicateId, c: Connection) -> Connection
-    ensures value { IfSome c.lead (λ k. k < 4294967295) → connection_of result ≡ with_edge selectivities.now i p.0 (connection_of c) }
+#[tactic(auto, unfolding(definition::specs::EdgeWalkLaws::with_edge, definition::specs::EdgeWalkLaws::rows_after))]
+fn with_edge(selectivities: &[u32], i: u32, p: Option<PredicateId>, c: Connection) -> Connection
+    ensures value { (n : ℕ) → p ≡ predicate_from n → IfSome c.lead (λ k. k < 4294967295)
+        → connection_of result ≡ with_edge selectivities.now i n (connection_of c) }
     ensures lead { result.lead ≡ option_or c.lead (Some i) }
 {
     Connection {
         lead: c.lead.or(Some(i)),
-        filters: c.filters || p.0 != NONE,
+        filters: c.filters || p.is_some(),
         rows: rows_after(selectivities, p, c.rows),
     }
-}
-
-// The predicate of edge i. 0 past the end.
-// kept: the definition reads 0 there.
-fn predicate_of(predicates: &[u32], i: usize) -> PredicateId
-    ensures { result.0 ≡ get_or predicates.now i 0 }
-{
-    PredicateId(predicates.get(i).copied().unwrap_or(0))
 }
 
 // What the candidate of a and b takes from the edges, in one walk.
@@ -197,7 +195,7 @@ pub fn connect(edges: &Edges<'_>, selectivities: &[u32], a: u64, b: u64, product
         filters: false,
         rows: product,
     };
-    // kept: by its number, since that is the lead, and says where the edge's predicate stands
+    // kept: i is the lead and the predicate's place, in a list that may be shorter; zip and enumerate over the sides would still go by i
     for i in 0..edges.left.len() {
         if connects(edges.left[i], edges.right[i], a, b) {
             c = with_edge(selectivities, i as u32, predicate_of(edges.predicate, i), c);

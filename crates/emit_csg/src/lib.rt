@@ -1,4 +1,4 @@
-// emit_csg: the connected set s1 is paired with what grows from each of its neighbours. A stop ends the loop: what comes next is then 0.
+// emit_csg: the connected set s1 is paired with what grows from each of its neighbours. A stop ends the loop.
 // Arguments are as in crate emit_csg_cmp.
 #![tactic(auto)]
 
@@ -7,6 +7,7 @@ ghost use Rattle.candidate.specs.Store.{store};
 ghost use Rattle.candidate.specs.Lent.{given_of, lists_of, SameLists};
 ghost use Rattle.emit_csg.specs.Walks.{store_emit, store_try, try_neighbor};
 
+use stepping::Leaves;
 use store::{DPhyp, Input, Lists};
 
 // The pair of s1 and its neighbour v, if an edge leads there.
@@ -39,18 +40,18 @@ fn try_neighbor(
 }
 
 // Pairs s1 with what grows from each of its neighbours, the highest first. d: how deep enumerate_cmp_rec may go.
+#[tactic(auto, using(stepping::proofs::Stepping::loop_next, stepping::proofs::Stepping::loop_end))]
 pub fn emit_csg(g: &Input<'_>, l: &mut Lists<'_>, d: u32, s1: u64, mut p: DPhyp) -> DPhyp
     ensures same { SameLists l.old l.new }
     ensures value { store (lists_of l.new) result ≡ store_emit (given_of g.now) g.now.limit d s1 (store (lists_of l.old) p) }
 {
     let x = s1 | nodeset::b_min(s1);
     let m = graph::neighborhood(&g.edges, s1, x);
-    let mut s = m;
-    // kept: no `for`, since the loop ends where the search stops
-    while s != 0 {
-        let v = nodeset::highest_singleton(s);
+    for v in Leaves::of(m) {
+        if p.stop.is_some() {
+            break;
+        }
         p = try_neighbor(g, l, d, s1, x, v, p);
-        s = stepping::leaves_after(s, v, p.stop.is_some());
     }
     p
 }

@@ -9,7 +9,7 @@ ghost use Rattle.candidate.specs.Lent.{given_of, lists_of, SameLists};
 
 use candidate::{Candidate, Due, Place};
 use cost::Estimate;
-use nodeset::{NONE, NodeId, PlanId};
+use nodeset::{LEAF, NONE, NodeId, PlanId};
 use store::{DPhyp, Input, Lists};
 
 // Writes the candidate, plan number at, of the set s, and its memo entry.
@@ -80,7 +80,7 @@ pub fn write_leaf(l: &mut Lists<'_>, k: NodeId, e: Estimate)
         left: PlanId(at),
         right: PlanId(at),
         lead: NONE,
-        kind: 9,
+        kind: LEAF,
         estimate: e,
         place: Place {
             position: at,

@@ -1,4 +1,4 @@
-// enumerate_cmp_rec: a connected set s1 stands, and the other set of the pair grows. A stop ends each loop: what comes next is then 0.
+// enumerate_cmp_rec: a connected set s1 stands, and the other set of the pair grows. A stop ends each loop.
 // Arguments are as in crate emit_csg_cmp.
 #![tactic(auto)]
 
@@ -7,6 +7,7 @@ ghost use Rattle.candidate.specs.Store.{store};
 ghost use Rattle.candidate.specs.Lent.{given_of, lists_of, SameLists};
 ghost use Rattle.enumerate_cmp.specs.Walks.{store_cmp_rec, visit_try, visit_tries, Joins};
 
+use stepping::Subsets;
 use store::{DPhyp, Input, Lists};
 
 // Whether a plan is kept for c and an edge leads to it from s1.
@@ -17,6 +18,7 @@ fn joins(g: &Input<'_>, l: &Lists<'_>, memo: u32, s1: u64, c: u64) -> bool
 }
 
 // One subset t of the neighbours in the first pass of enumerate_cmp_rec: one visit, and the pair of s1 and s2 with t if it joins.
+// kept: apart from enumerate_csg's visit_emit, which asks the memo alone and starts emit_csg; one for both would take both as closures.
 #[tactic(auto, using(crate::specs::WalkLaws::visit_try_yes, crate::specs::WalkLaws::visit_try_no))]
 fn visit_try(g: &Input<'_>, l: &mut Lists<'_>, s1: u64, s2: u64, t: u64, p: DPhyp) -> DPhyp
     ensures same { SameLists l.old l.new }
@@ -31,24 +33,24 @@ fn visit_try(g: &Input<'_>, l: &mut Lists<'_>, s1: u64, s2: u64, t: u64, p: DPhy
 }
 
 // The first pass of enumerate_cmp_rec, over the subsets of m.
-#[tactic(auto, using(crate::proofs::Loops::loop_next, crate::proofs::Loops::loop_end))]
+#[tactic(auto, using(stepping::proofs::Stepping::loop_next, stepping::proofs::Stepping::loop_end))]
 fn visit_tries(g: &Input<'_>, l: &mut Lists<'_>, s1: u64, s2: u64, m: u64, mut p: DPhyp) -> DPhyp
     ensures same { SameLists l.old l.new }
     ensures value { store (lists_of l.new) result ≡ visit_tries (given_of g.now) g.now.limit s1 s2 m (store (lists_of l.old) p) }
 {
-    // kept: no `for`, since the loop ends where the search stops, and a subset comes out of the one before it
     // kept: the four loops over subsets are not one function over closures, since each closure would state its step's contract once more
-    let mut t = stepping::subset_after(m, 0, p.stop.is_some());
-    while t != 0 {
+    for t in Subsets::of(m) {
+        if p.stop.is_some() {
+            break;
+        }
         p = visit_try(g, l, s1, s2, t, p);
-        t = stepping::subset_after(m, t, p.stop.is_some());
     }
     p
 }
 
 // Grows s2 by its neighbours outside x. d: how much deeper it may go.
 // kept: two functions, as in the Rust (the other is enumerate_csg_rec); one for both would take two closures that write to the lent lists.
-#[tactic(auto, using(crate::proofs::Loops::loop_next), unfolding(definition::specs::Walk::enumerate_cmp_rec))]
+#[tactic(auto, using(stepping::proofs::Stepping::loop_next, stepping::proofs::Stepping::loop_end), unfolding(definition::specs::Walk::enumerate_cmp_rec))]
 pub fn enumerate_cmp_rec(
     g: &Input<'_>,
     l: &mut Lists<'_>,
@@ -68,12 +70,12 @@ pub fn enumerate_cmp_rec(
     let m = graph::neighborhood(&g.edges, s2, x);
     let y = x | m;
     let mut p = visit_tries(g, l, s1, s2, m, p);
-    let mut t = stepping::subset_after(m, 0, p.stop.is_some());
-    // kept: as the first pass
-    while t != 0 {
+    for t in Subsets::of(m) {
+        if p.stop.is_some() {
+            break;
+        }
         p = p.visit(g.limit);
         p = enumerate_cmp_rec(g, l, deeper, s1, s2 | t, y, p);
-        t = stepping::subset_after(m, t, p.stop.is_some());
     }
     p
 }

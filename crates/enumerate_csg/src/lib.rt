@@ -1,5 +1,5 @@
-// enumerate_csg_rec: the connected set s1 grows, and each set that it grows to and that has a plan is paired. A stop ends each loop: what
-// comes next is then 0. Arguments are as in crate emit_csg_cmp.
+// enumerate_csg_rec: the connected set s1 grows, and each set that it grows to and that has a plan is paired. A stop ends each loop.
+// Arguments are as in crate emit_csg_cmp.
 #![tactic(auto)]
 
 ghost use Rattle.std.specs.Prelude.{◌≡◌, take};
@@ -8,6 +8,7 @@ ghost use Rattle.candidate.specs.Store.{store};
 ghost use Rattle.candidate.specs.Lent.{given_of, lists_of, SameLists};
 ghost use Rattle.enumerate_csg.specs.Walks.{store_csg_rec, visit_emit, visit_emits};
 
+use stepping::Subsets;
 use store::{DPhyp, Input, Lists};
 
 // Whether a plan is kept for c.
@@ -19,6 +20,7 @@ fn is_kept(l: &Lists<'_>, memo: u32, c: u64) -> bool
 }
 
 // One subset t of the neighbours in the first pass of enumerate_csg_rec: one visit, and what starts from s1 with t if it has a plan.
+// kept: apart from enumerate_cmp's visit_try, which asks for an edge too and tries the pair; one for both would take both as closures.
 #[tactic(auto, using(crate::specs::WalkLaws::visit_emit_yes, crate::specs::WalkLaws::visit_emit_no))]
 fn visit_emit(g: &Input<'_>, l: &mut Lists<'_>, e: u32, s1: u64, t: u64, p: DPhyp) -> DPhyp
     ensures same { SameLists l.old l.new }
@@ -33,23 +35,24 @@ fn visit_emit(g: &Input<'_>, l: &mut Lists<'_>, e: u32, s1: u64, t: u64, p: DPhy
 }
 
 // The first pass of enumerate_csg_rec, over the subsets of m.
-#[tactic(auto, using(enumerate_cmp::proofs::Loops::loop_next, enumerate_cmp::proofs::Loops::loop_end))]
+#[tactic(auto, using(stepping::proofs::Stepping::loop_next, stepping::proofs::Stepping::loop_end))]
 fn visit_emits(g: &Input<'_>, l: &mut Lists<'_>, e: u32, s1: u64, m: u64, mut p: DPhyp) -> DPhyp
     ensures same { SameLists l.old l.new }
     ensures value { store (lists_of l.new) result ≡ visit_emits (given_of g.now) g.now.limit e s1 m (store (lists_of l.old) p) }
 {
-    let mut t = stepping::subset_after(m, 0, p.stop.is_some());
-    // kept: no `for`, since the loop ends where the search stops, and a subset comes out of the one before it
-    while t != 0 {
+    // kept: the four loops over subsets are not one function over closures, since each closure would state its step's contract once more
+    for t in Subsets::of(m) {
+        if p.stop.is_some() {
+            break;
+        }
         p = visit_emit(g, l, e, s1, t, p);
-        t = stepping::subset_after(m, t, p.stop.is_some());
     }
     p
 }
 
 // Grows s1 by its neighbours outside x. e: how deep enumerate_cmp_rec may go; d: how much deeper this one may go.
-// kept: beside enumerate_cmp_rec, which says why.
-#[tactic(auto, using(enumerate_cmp::proofs::Loops::loop_next), unfolding(definition::specs::Walk::enumerate_csg_rec))]
+// kept: two functions, as in the Rust (the other is enumerate_cmp_rec); one for both would take two closures that write to the lent lists.
+#[tactic(auto, using(stepping::proofs::Stepping::loop_next, stepping::proofs::Stepping::loop_end), unfolding(definition::specs::Walk::enumerate_csg_rec))]
 pub fn enumerate_csg_rec(
     g: &Input<'_>,
     l: &mut Lists<'_>,
@@ -69,12 +72,12 @@ pub fn enumerate_csg_rec(
     let m = graph::neighborhood(&g.edges, s1, x);
     let y = x | m;
     let mut p = visit_emits(g, l, e, s1, m, p);
-    let mut t = stepping::subset_after(m, 0, p.stop.is_some());
-    // kept: as the first pass
-    while t != 0 {
+    for t in Subsets::of(m) {
+        if p.stop.is_some() {
+            break;
+        }
         p = p.visit(g.limit);
         p = enumerate_csg_rec(g, l, e, deeper, s1 | t, y, p);
-        t = stepping::subset_after(m, t, p.stop.is_some());
     }
     p
 }

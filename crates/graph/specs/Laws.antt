@@ -1,10 +1,14 @@
 -- One edge more, for the loops over the edges. Assumes nothing.
-use Rattle.std.specs.Prelude.{◌≡◌, true, false, List, ℕ, ◌+◌, ◌≤◌, ◌<◌, get_or, drop}
+use Rattle.std.specs.Prelude.{◌≡◌, refl, ◌||◌, List, ℕ, zero, suc, ◌+◌, ◌≤◌, ◌<◌, length, get_or, drop}
+use Rattle.std.proofs.Common.{ap, arith, add-one, drop-cons, drop_of_length-le}
+use Rattle.std.specs.List.{list_any, zip}
+use Rattle.std.proofs.lemmas.Slice.Zip.{length-zip, get_or-zip}
 use Rattle.std.specs.Int.Bits.{bit_or, or_zero_r}
-use Rattle.definition.specs.Hypergraph.{Edge, beyond, neighborhood, connects, has_edge}
-use Rattle.definition.specs.EdgeView.{edge_at, edges_of}
+use Rattle.definition.specs.Hypergraph.{Edge, beyond, neighborhood, has_edge}
+use Rattle.definition.specs.EdgeView.{edges_of}
 use Rattle.definition.proofs.EdgeViewLaws.{edges_at, edges_end}
 use Rattle.nodeset.specs.SetLaws.{or_assoc}
+use Rattle.graph.specs.View.{sides_connect}
 
 module _ (n : ℕ) (l r p c t : List ℕ) where
   -- the edges from i on
@@ -21,14 +25,13 @@ module _ (n : ℕ) (l r p c t : List ℕ) where
   unfolding neighborhood
   nbr_end s x found i h = rw (edges_end n l r p c t i h) (or_zero_r found)
 
-  pub has_here : (a b i : ℕ) → i < n → connects a b (edge_at l r p c t i) ≡ true → true ≡ has_edge (onward i) a b
+  -- whether one of the edges from i on connects a and b, k of them, by their two sides
+  pub has_any : (a b : ℕ) → length l ≡ n → length r ≡ n → (k i : ℕ) → i + k ≡ n
+      → list_any (sides_connect a b) (drop i (zip l r)) ≡ has_edge (onward i) a b
   unfolding has_edge
-  has_here a b i h e = rw (edges_at n l r p c t i h, e)
-
-  pub has_on : (a b i : ℕ) → i < n → connects a b (edge_at l r p c t i) ≡ false → has_edge (onward (i + 1)) a b ≡ has_edge (onward i) a b
-  unfolding has_edge
-  has_on a b i h e = rw (edges_at n l r p c t i h, e)
-
-  pub has_end : (a b i : ℕ) → n ≤ i → false ≡ has_edge (onward i) a b
-  unfolding has_edge
-  has_end a b i h = rw (edges_end n l r p c t i h)
+  has_any a b hl hr zero i e =
+      rw (edges_end n l r p c t i (omega arith), drop_of_length-le (zip l r) {i = i} (omega (arith, length-zip l r, hl, hr))) refl
+  has_any a b hl hr (suc k) i e =
+      let here : get_or (zip l r) i (0, 0) ≡ (get_or l i 0, get_or r i 0) = get_or-zip l r i (0, 0) (omega (arith, hl)) (omega (arith, hr)) in
+      rw (edges_at n l r p c t i (omega arith), drop-cons (zip l r) i (0, 0) (omega (arith, length-zip l r, hl, hr)), here, add-one i)
+      (ap (λ x. sides_connect a b (get_or l i 0, get_or r i 0) || x) (rw add-one at (has_any a b hl hr k (i + 1) (omega arith))))

@@ -34,10 +34,9 @@ pub fn neighborhood(edges: &Edges<'_>, s: u64, x: u64) -> u64
 pub fn has_edge(edges: &Edges<'_>, a: u64, b: u64) -> bool
     ensures { HasEdge edges.now a b result }
 {
-    for (l, r) in edges.left.iter().zip(edges.right) {
-        if cost::connects(*l, *r, a, b) {
-            return true;
-        }
-    }
-    false
+    edges
+        .left
+        .iter()
+        .zip(edges.right)
+        .any(|(l, r)| cost::connects(*l, *r, a, b))
 }

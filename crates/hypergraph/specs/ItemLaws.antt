@@ -7,10 +7,6 @@ use Rattle.hypergraph.specs.Walk.{item_edges}
 
 -- ---- the number of edges
 
-pub no_edges : (i : OpenItem) → i.kind ≡ leaf → 0 ≡ item_edges i
-unfolding item_edges
-no_edges i e = rw (eq-eqb i.kind leaf e, item_edges)
-
 pub one_edge_lem : (i : OpenItem) → i.kind ≡ cross_product → 1 ≡ item_edges i
 unfolding item_edges
 one_edge_lem i e = let l : i.kind ≡ leaf → ⊥ = λ f. omega arith in rw (ne_eqb i.kind leaf l, eq-eqb i.kind cross_product e, item_edges)

@@ -4,3 +4,4 @@ pub mod Walk
 pub mod HeldLaws
 pub mod ItemLaws
 pub mod WalkLaws
+pub mod NextLaws

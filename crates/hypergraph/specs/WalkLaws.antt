@@ -1,13 +1,14 @@
 -- One item after the other: what is built, and that there is room for what comes. Assumes nothing.
-use Rattle.std.specs.Prelude.{◌≡◌, Bool, true, false, ℕ, ◌+◌, ◌-◌, ◌≤◌, ◌<◌, drop, eqb}
+use Rattle.std.specs.Prelude.{◌≡◌, Bool, true, false, ℕ, ◌+◌, ◌-◌, ◌≤◌, ◌<◌, drop, eqb, sum_by}
 use Rattle.std.proofs.Math.Path.{refl, sym, ap, ap₂}
 use Rattle.std.proofs.Common.{◌∙◌, arith, add-one, length-append, drop_of_length-le, eq-eqb, ne_eqb, eqb-true}
-use mathlib.Core.List.{List, [], ◌∷◌}
+use mathlib.Core.List.{List, [], ◌∷◌, map}
 use Rattle.std.proofs.Math.ListN.{length, get_or, take}
 use Rattle.std.proofs.lemmas.Bool.{eqb-false}
 use Rattle.definition.specs.Lists.{concat_map}
 use Rattle.std.proofs.lemmas.List.{length-map}
-use Rattle.definition.specs.Question.{Range, part, Question, OpenItem, OpenQuestion, cross_product, leaf}
+use Rattle.std.proofs.lemmas.List.Recursion.{is_sum_by}
+use Rattle.definition.specs.Question.{Range, part, Question, Item, OpenItem, OpenQuestion, cross_product, leaf}
 use Rattle.definition.specs.Question.{item, open_item, open_question, leaf_count, ends_with_one}
 use Rattle.definition.proofs.QuestionLaws.{open_item_lem, counts-leaf, counts-join, finds_two, walk_items, length_open_items, length_open_predicates}
 use Rattle.definition.specs.Sheet.{question_of}
@@ -20,9 +21,6 @@ use Rattle.definition.proofs.EdgeCount.{JoinFits, join-height, item-height, item
 use Rattle.definition.proofs.InputLaws.{sound_edges-counted}
 use Rattle.ses.specs.View.{columns_at, Fit, Named}
 use Rattle.sheet.specs.declared.Range as declared
-use Rattle.sheet.specs.declared.Sections.{Sections}
-use Rattle.sheet.specs.Views.{Placed}
-use Rattle.definition.proofs.SheetLaws.{length_items}
 use Rattle.tes.specs.Views.{join_of}
 use Rattle.builder.specs.Builds.{LeavesFit, empty, pile_of, build_of, edges_in, edges_held, EdgeLists, with_leaf, Longer, Added, RoomFor}
 use Rattle.builder.specs.declared.HypergraphBuilder.{HypergraphBuilder}
@@ -45,16 +43,17 @@ count_cons i is = go (eqb i.kind leaf) (eqb i.kind cross_product)
     go false true = refl
     go false false = refl
 
+-- the edges of all items are the sum of each one's
+pub edges_summed : (xs : List Item) → edge_count (map open_item xs) ≡ sum_by (λ (x : Item). item_edges (open_item x)) xs
+unfolding edge_count
+edges_summed xs =
+    is_sum_by (λ (ys : List Item). edge_count (map open_item ys)) (λ (x : Item). item_edges (open_item x)) refl
+    (λ x ys. count_cons (open_item x) (map open_item ys)) xs
+
 module _ (q : Question) (k : ℕ) where
   pub edges_step : k < length q.items
       → edge_count (drop k (open_question q).items) ≡ item_edges (open_item (item q k)) + edge_count (drop (k + 1) (open_question q).items)
   edges_step h = ap edge_count (open_item_lem q k h) ∙ count_cons (open_item (item q k)) (drop (k + 1) (open_question q).items)
-
-  pub edges_done : length q.items ≤ k → edge_count (drop k (open_question q).items) ≡ 0
-  unfolding edge_count
-  edges_done h =
-      let g : length (open_question q).items ≤ k = omega (arith, length_open_items q) in
-      ap edge_count (drop_of_length-le (open_question q).items g)
 
 -- ---- an item
 
@@ -111,10 +110,6 @@ module _ (sheet : List ℕ) (b : HypergraphBuilder) (e : EdgeLists) where
 
 abbrev items_of : List ℕ → List OpenItem
 items_of sheet = (open_question (question_of sheet)).items
-
--- a number below the items' count is an item's
-pub item_within : (sheet : List ℕ) (s : Sections) (k : ℕ) → Placed sheet s → k < s.items.count → k < length (question_of sheet).items
-item_within sheet s k p h = omega (arith, p.items_many, length_items sheet)
 
 module _ (sheet : List ℕ) (k : ℕ) (b : HypergraphBuilder) (l : EdgeLists) (w : Along sheet k b l) (h : k < length (question_of sheet).items) where
   abbrev q : Question
@@ -273,10 +268,6 @@ unfolding build_from
 rest_end sheet k b h =
     let g : length (items_of sheet) ≤ k = omega (arith, length_open_items (question_of sheet)) in
     ap (λ (l : List OpenItem). build_from join (open_question (question_of sheet)) k l b) (drop_of_length-le (items_of sheet) g)
-
--- what stands where no item is left
-pub walked_all : (sheet : List ℕ) (s : Sections) (k : ℕ) (b c : Build) → Placed sheet s → s.items.count ≤ k → rest sheet k b ≡ c → b ≡ c
-walked_all sheet s k b c p h e = sym (rest_end sheet k b (omega (arith, p.items_many, length_items sheet))) ∙ e
 
 module _ (sheet : List ℕ) (b : HypergraphBuilder) (e : EdgeLists) (built : build_of sheet b e ≡ rest sheet 0 empty_build) where
   whole-edges : edges_in b.edges e ≡ build_hypergraph (open_question (question_of sheet))

@@ -7,42 +7,38 @@ ghost use Rattle.definition.specs.Question.{open_item, open_question, item};
 ghost use Rattle.definition.specs.Sheet.{question_of};
 ghost use Rattle.definition.specs.Accepted.{Sound};
 ghost use Rattle.definition.specs.Edges.{join, build_item, build_hypergraph, edge_count};
+ghost use Rattle.sheet.specs.Views.{item_of};
 ghost use Rattle.builder.specs.Builds.{edge_lists_of, SameEdgeLists, edges_held, build_of, Longer, Added};
-ghost use Rattle.hypergraph.specs.Walk.{item_edges, Along};
+ghost use Rattle.hypergraph.specs.Walk.{item_edges, Along, Next};
 
 use builder::{EdgeLists, HypergraphBuilder};
 use joins::JoinItem;
-use sheet::Sheet;
+use nodeset::{CROSS_PRODUCT, LEAF};
+use sheet::{Item, Sheet};
 
 // How many edges the items make, by their words alone.
 pub fn edge_count(sheet: &Sheet<'_>) -> u64
     ensures { result ≡ edge_count (open_question (question_of sheet.now.bytes.now)).items }
 {
-    let mut edges = 0;
-    for i in 0..sheet.sections.items.count {
-        edges += item_edges(sheet, i);
-    }
-    edges
+    sheet.items().map(|item| u64::from(item_edges(item))).sum()
 }
 
-// kept: a kind is the sheet's own word, which document 01 numbers: 9 is a leaf, 8 a cross product, and a sheet that is not checked may have any.
+// How many edges an item makes.
 #[tactic(auto, unfolding(crate::specs::Walk::item_edges))]
-fn item_edges(sheet: &Sheet<'_>, i: usize) -> u64
-    requires { i < sheet.now.sections.items.count }
-    ensures edges { result ≡ item_edges (open_item (item (question_of sheet.now.bytes.now) i)) }
-    ensures few { result < 4294967296 }
+fn item_edges(item: Item) -> u32
+    ensures { result ≡ item_edges (open_item (item_of item)) }
 {
-    match sheet.item_kind(i) {
-        9 => 0,
-        8 => 1,
-        _ => sheet.item_range(i).count as u64,
+    match item.kind {
+        LEAF => 0,
+        CROSS_PRODUCT => 1,
+        _ => item.range.count,
     }
 }
 
-// Item k.
-// kept: kinds as in item_edges.
-fn item(b: &mut HypergraphBuilder, lists: &mut EdgeLists<'_>, sheet: &Sheet<'_>, k: u32)
-    requires { Sound (question_of sheet.now.bytes.now) × Along sheet.now.bytes.now k b.old (edge_lists_of lists.old) × (k < sheet.now.sections.items.count) }
+// Item k, which is x.
+// kept: b, lists and x stay apart: the builder is ours, the lists the caller's, x is only read. SameEdgeLists and Added as at add_edge.
+fn item(b: &mut HypergraphBuilder, lists: &mut EdgeLists<'_>, sheet: &Sheet<'_>, k: u32, x: Item)
+    requires { Next sheet.now.bytes.now k x b.old (edge_lists_of lists.old) }
     ensures same { SameEdgeLists lists.old lists.new }
     ensures built { let q = question_of sheet.now.bytes.now in
         build_of sheet.now.bytes.now b.new (edge_lists_of lists.new)
@@ -50,19 +46,17 @@ fn item(b: &mut HypergraphBuilder, lists: &mut EdgeLists<'_>, sheet: &Sheet<'_>,
     ensures along { Along sheet.now.bytes.now (k + 1) b.new (edge_lists_of lists.new) }
     ensures rest { Added b.old.edges b.new.edges (edge_lists_of lists.old) (edge_lists_of lists.new) }
 {
-    let kind = sheet.item_kind(k as usize);
-    let range = sheet.item_range(k as usize);
-    if kind == 9 {
-        b.add_leaf(range);
+    if x.kind == LEAF {
+        b.add_leaf(x.range);
         return;
     }
     let j = JoinItem {
         number: k,
-        kind,
-        predicates: range,
+        kind: x.kind,
+        predicates: x.range,
         whole: b.top_two(),
     };
-    if kind == 8 {
+    if x.kind == CROSS_PRODUCT {
         joins::cross_item(b, lists, j);
     } else {
         joins::join_item(b, lists, sheet, j);
@@ -70,6 +64,7 @@ fn item(b: &mut HypergraphBuilder, lists: &mut EdgeLists<'_>, sheet: &Sheet<'_>,
 }
 
 // The edges of a sheet that the check accepts go to the five lists: what stood behind them stays. Answers how many they are.
+// kept: SameEdgeLists, as at add_edge.
 pub fn build_hypergraph(sheet: &Sheet<'_>, lists: &mut EdgeLists<'_>) -> u32
     requires { Sound (question_of sheet.now.bytes.now)
         × (edge_count (open_question (question_of sheet.now.bytes.now)).items ≤ 256)
@@ -79,8 +74,8 @@ pub fn build_hypergraph(sheet: &Sheet<'_>, lists: &mut EdgeLists<'_>) -> u32
     ensures lists { edge_lists_of lists.new ≡ edges_held (build_hypergraph (open_question (question_of sheet.now.bytes.now))) (edge_lists_of lists.old) }
 {
     let mut b = HypergraphBuilder::new();
-    for k in 0..sheet.sections.items.count as u32 {
-        item(&mut b, lists, sheet, k);
+    for (k, x) in sheet.items().enumerate() {
+        item(&mut b, lists, sheet, k as u32, x);
     }
     b.edges as u32
 }

@@ -1,11 +1,11 @@
 -- Arrays that are filled from the front. Assumes nothing.
-use Rattle.std.specs.Prelude.{◌≡◌, refl, ℕ, zero, suc, ◌+◌, ◌≤◌, ◌<◌, length, get_or, take, drop}
+use Rattle.std.specs.Prelude.{◌≡◌, refl, ℕ, zero, suc, ◌+◌, ◌≤◌, ◌<◌, length, get_or, take}
 use Rattle.std.proofs.Math.Path.{sym, ap}
-use Rattle.std.proofs.Common.{ap₂, ◌∙◌, arith, add-one, drop_of_length-le, drop-cons}
-use mathlib.Core.List.{List, [], ◌∷◌, ◌++◌, map, map-append}
+use Rattle.std.proofs.Common.{ap₂, ◌∙◌, arith, add-one}
+use mathlib.Core.List.{List, [], ◌∷◌, ◌++◌, map, map-append, append-nil}
 use Rattle.std.proofs.Math.Seq.{append_snoc}
 use borrow.Author.Tests.{eq-eqb, ne_eqb}
-use Rattle.definition.specs.Question.{Question, leaf, item}
+use Rattle.definition.specs.Question.{Item, open_item, leaf, leaf_count}
 use Rattle.definition.specs.Search.{Leaf}
 use Rattle.definition.specs.Call.{leaves_of}
 use Rattle.cost.specs.declared.Leaf as cost
@@ -28,24 +28,28 @@ filled f (x ∷ xs) d (y ∷ l) (suc n) e h at =
 pub leaf_more : (ls : List cost.Leaf) (x : cost.Leaf) → leaves_in (ls ++ (x ∷ [])) ≡ leaves_in ls ++ (leaf_of x ∷ [])
 leaf_more ls x = map-append leaf_of ls (x ∷ [])
 
-module _ (q : Question) (i : ℕ) (h : i < length q.items) where
-  next : drop i q.items ≡ item q i ∷ drop (i + 1) q.items
-  next = rw add-one (drop-cons q.items i _ h)
-
-  -- the leaves from item i on, behind those before it
-  pub leaves_on : (ls : List Leaf) {ms : List Leaf} → (item q i).kind ≡ leaf
-      → ms ≡ ls ++ (record { rows = (item q i).rows; columns = (item q i).range.count } ∷ [])
-      → ms ++ leaves_of (drop (i + 1) q.items) ≡ ls ++ leaves_of (drop i q.items)
+module _ {ys zs : List Item} {x : Item} (e : ys ≡ x ∷ zs) where
+  -- a leaf goes behind those before it
+  pub leaf_taken : (ls : List Leaf) {ms : List Leaf} → x.kind ≡ leaf → ms ≡ ls ++ (record { rows = x.rows; columns = x.range.count } ∷ [])
+      → ms ++ leaves_of zs ≡ ls ++ leaves_of ys
   unfolding leaves_of
-  leaves_on ls e f =
-      ap (λ (l : List Leaf). l ++ leaves_of (drop (i + 1) q.items)) f
-      ∙ append_snoc ls (record { rows = (item q i).rows; columns = (item q i).range.count }) (leaves_of (drop (i + 1) q.items))
-      ∙ ap (λ (l : List Leaf). ls ++ l) (sym (rw (next, eq-eqb (item q i).kind leaf e, leaves_of)))
+  leaf_taken ls k f =
+      ap (λ (l : List Leaf). l ++ leaves_of zs) f
+      ∙ append_snoc ls (record { rows = x.rows; columns = x.range.count }) (leaves_of zs)
+      ∙ ap (λ (l : List Leaf). ls ++ l) (sym (rw (e, eq-eqb x.kind leaf k, leaves_of)))
 
-  pub leaves_past : ((item q i).kind ≡ leaf → ⊥) → leaves_of (drop (i + 1) q.items) ≡ leaves_of (drop i q.items)
+  pub join_passed : (x.kind ≡ leaf → ⊥) → leaves_of zs ≡ leaves_of ys
   unfolding leaves_of
-  leaves_past e = sym (rw (next, ne_eqb (item q i).kind leaf e, leaves_of))
+  join_passed k = sym (rw (e, ne_eqb x.kind leaf k, leaves_of))
 
-pub leaves_end : (q : Question) (i : ℕ) → length q.items ≤ i → leaves_of (drop i q.items) ≡ []
+  pub leaf_counted : x.kind ≡ leaf → leaf_count (map open_item ys) ≡ leaf_count (map open_item zs) + 1
+  unfolding leaf_count
+  leaf_counted k = rw (e, eq-eqb x.kind leaf k, leaf_count) (sym (add-one (leaf_count (map open_item zs))))
+
+  pub join_uncounted : (x.kind ≡ leaf → ⊥) → leaf_count (map open_item ys) ≡ leaf_count (map open_item zs)
+  unfolding leaf_count
+  join_uncounted k = rw (e, ne_eqb x.kind leaf k, leaf_count)
+
+pub no_leaves : {ys : List Item} (ls : List Leaf) → ys ≡ [] → ls ≡ ls ++ leaves_of ys
 unfolding leaves_of
-leaves_end q i h = ap leaves_of (drop_of_length-le q.items h)
+no_leaves ls e = sym (append-nil ls) ∙ ap (λ (l : List Leaf). ls ++ l) (sym (rw e))

@@ -10,12 +10,8 @@ ghost use Rattle.input.specs.View.{leaves_in};
 
 use arrayvec::ArrayVec;
 use cost::Leaf;
-use nodeset::PredicateId;
+use nodeset::{LEAF, PredicateId};
 use sheet::Sheet;
-
-// An item's kind where it is a leaf.
-// kept: a kind is a number, as the sheet and the search's list of kinds hold it.
-const LEAF: u32 = 9;
 
 // The kind of each item, and 0 behind them.
 // kept: beside selectivities, since one function for both would take the reader and what it gives as parameters.
@@ -24,7 +20,7 @@ pub fn kinds(sheet: &Sheet<'_>) -> [u32; 127]
     ensures kinds { take sheet.now.sections.items.count result ≡ map (λ (i : Item). i.kind) (question_of sheet.now.bytes.now).items }
 {
     let n = sheet.sections.items.count;
-    std::array::from_fn(|i| if i < n { sheet.item_kind(i) } else { 0 })
+    std::array::from_fn(|i| if i < n { sheet.item(i).kind } else { 0 })
 }
 
 // The selectivity of each predicate, and 0 behind them.
@@ -37,7 +33,7 @@ pub fn selectivities(sheet: &Sheet<'_>) -> [u32; 256]
     let n = sheet.sections.predicates.count;
     std::array::from_fn(|i| {
         if i < n {
-            sheet.predicate_selectivity(PredicateId(i as u32))
+            sheet.predicate(PredicateId(i as u32)).selectivity
         } else {
             0
         }
@@ -50,11 +46,12 @@ pub fn leaves(sheet: &Sheet<'_>) -> ArrayVec<Leaf, 64>
     ensures { leaves_in result.items ≡ leaves_of (question_of sheet.now.bytes.now).items }
 {
     let mut leaves = ArrayVec::new();
-    for i in 0..sheet.sections.items.count {
-        if sheet.item_kind(i) == LEAF {
-            let rows = sheet.item_rows(i);
-            let columns = sheet.item_range(i).count;
-            leaves.push(Leaf { rows, columns });
+    for item in sheet.items() {
+        if item.kind == LEAF {
+            leaves.push(Leaf {
+                rows: item.rows,
+                columns: item.range.count,
+            });
         }
     }
     leaves

@@ -15,7 +15,7 @@ ghost use Rattle.joins.specs.Joins.{edges_by, sides_by, item_of, Ready};
 use builder::{EdgeLists, HypergraphBuilder};
 use conflict::HyperedgeJoinType;
 use connectivity::EdgeSides;
-use nodeset::PredicateId;
+use nodeset::{INNER, PredicateId};
 use sheet::{Range, Sheet};
 use tes::{NewJoin, Sides};
 
@@ -43,6 +43,8 @@ impl JoinItem {
 }
 
 // A join's sides over the columns of the predicates p (cd_e_for_predicate).
+// kept: b, lists, sheet and j stay apart: the builder is ours, the lists the caller's, the sheet and j are only read; one struct of them would have
+// to say in each function that the sheet and j stay. Ready is no fact of the builder's type: it speaks of a sheet, which the builder doesn't hold.
 fn sides(
     b: &HypergraphBuilder,
     lists: &EdgeLists<'_>,
@@ -69,6 +71,7 @@ fn sides(
 }
 
 // The sides of the edge of the predicate p. An Inner join's are worked out with the edges before it, another's are its record sets x.
+// kept: as sides.
 fn edge_sides(
     b: &HypergraphBuilder,
     lists: &EdgeLists<'_>,
@@ -82,8 +85,8 @@ fn edge_sides(
     ensures { sides_of result ≡ sides_by (open_question (question_of sheet.now.bytes.now)) j.kind j.whole.left j.whole.right (sides_of x) p
         (build_of sheet.now.bytes.now b.now (edge_lists_of lists.now)) }
 {
-    // kept: a kind is the sheet's own word, which document 01 numbers. Its type would not do: a cross product's is Inner too
-    if j.kind != 0 {
+    // kept: asked of the kind. Its type would not do: a cross product's is Inner too
+    if j.kind != INNER {
         return x;
     }
     let one = Range { first: p, count: 1 };
@@ -91,7 +94,7 @@ fn edge_sides(
 }
 
 // The edges of a join, one for each predicate. x: its record sets.
-// kept: b, lists and j stay apart: the builder is ours, the lists the caller's, j is only read
+// kept: as sides; SameEdgeLists and Added as at add_edge.
 fn join_edges(
     b: &mut HypergraphBuilder,
     lists: &mut EdgeLists<'_>,
@@ -153,8 +156,7 @@ pub fn cross_item(b: &mut HypergraphBuilder, lists: &mut EdgeLists<'_>, j: JoinI
         right: nodeset::nodeset_singleton(nodeset::nodeset_min(j.whole.right)),
     };
     let new = NewJoin {
-        // Inner's number
-        join_type: 0,
+        join_type: HyperedgeJoinType::Inner.number(),
         whole: j.whole,
     };
     b.add_edge(lists, x, None, j.number, new.join_type);

@@ -3,7 +3,7 @@
 
 mod text;
 
-ghost use Rattle.std.specs.Prelude.{◌≡◌, ◌+◌, ◌≤◌, length, set};
+ghost use Rattle.std.specs.Prelude.{◌≡◌, ◌+◌, ◌≤◌, length};
 ghost use Rattle.std.proofs.lemmas.List.Edits.{sets};
 ghost use Rattle.definition.specs.TriedList.{decimal, tried_list};
 ghost use Rattle.listing.specs.Text.{pairs_of, answer_for, written_in, head_length, lines_length, side_sets};
@@ -11,33 +11,17 @@ ghost use Rattle.listing.specs.Text.{pairs_of, answer_for, written_in, head_leng
 use store::at;
 use text::Text;
 
-// Past the end nowhere.
-// kept: store's put takes an entry's number, this one a place of a text.
-fn put<T: Copy>(s: &mut [T], i: usize, value: T)
-    ensures { s.new ≡ set s.old i value }
-{
-    if i < s.len() {
-        s[i] = value;
-    }
-}
-
 // How many digits n has.
+#[tactic(auto, using(crate::proofs::DigitLaws::digits_counted))]
 fn decimal_length(n: u32) -> usize
     ensures value { result ≡ length (decimal n) }
     ensures bound { result ≤ 10 }
 {
-    // kept: the definition divides by ten; ilog10 would need a lemma that ties it to the digits.
-    let mut k: usize = 1;
-    let mut rest = n;
-    while rest >= 10 {
-        rest /= 10;
-        k += 1;
-    }
-    k
+    n.checked_ilog10().unwrap_or(0) as usize + 1
 }
 
 // How many bytes the text has.
-// kept: answer, trials and visits are the first line's three numbers, and only written.
+// kept: a struct of the first line's three numbers would be made in tried_list and taken apart at its two uses, here and in put_header.
 fn text_length(answer: u32, trials: u32, visits: u32) -> usize
     ensures { result ≡ head_length answer trials visits + lines_length trials }
 {
@@ -53,13 +37,14 @@ fn text_length(answer: u32, trials: u32, visits: u32) -> usize
 pub fn side_sets(pset: &[u64], pside: &[u32], leaves: u32, plans: u32, side: &mut [u64])
     ensures { side.new ≡ sets side.old 0 (side_sets pset.now pside.now leaves plans) }
 {
+    // kept: by its number, since a place past a list's end is read as 0, where an iterator would end
     for k in leaves..plans {
         store::put(side, k - leaves, at(pset, at(pside, k, 0), 0));
     }
 }
 
 // The text of the tried list, if it fits, and then its length.
-// kept: the answer is a number here, since it is only written; one list of sets for each side, as side_sets leaves them.
+// kept: the answer is a number here, since it is only written; pairs would take side_sets two passes over one list, a field in each, and no line less.
 pub fn tried_list(
     answer: u32,
     visits: u32,

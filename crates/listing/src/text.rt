@@ -4,7 +4,6 @@ ghost use Rattle.definition.specs.TriedList.{decimal, hex_digit, hex_digits, hex
 ghost use Rattle.listing.specs.Text.{Puts, pairs_of};
 ghost use Rattle.listing.specs.Same.{Same};
 
-use crate::put;
 use store::at;
 
 const SPACE: u8 = b' ';
@@ -25,7 +24,9 @@ impl Text<'_> {
         ensures place { self.new.at ≡ self.old.at + 1 }
         ensures puts { Puts (b ∷ []) self.old.out.now self.new.out.now self.old.at self.new.at }
     {
-        put(self.out, self.at, b);
+        if self.at < self.out.len() {
+            self.out[self.at] = b;
+        }
         self.at += 1;
     }
 
@@ -58,7 +59,7 @@ impl Text<'_> {
     }
 
     // The first line.
-    // kept: three numbers that are only written.
+    // kept: each number is written once, at its place; not one function with put_line, whose line has a decimal and two sets.
     fn put_header(&mut self, answer: u32, trials: u32, visits: u32)
         requires { self.old.at ≤ 2 ^ 39 }
         ensures same { Same self.old self.new }
@@ -74,6 +75,7 @@ impl Text<'_> {
     }
 
     // The line of candidate number i.
+    // kept: two of its three fields are sets, where put_header's are all decimals; one function would take how each is written.
     fn put_line(&mut self, i: u32, left: u64, right: u64)
         requires { self.old.at ≤ 2 ^ 39 }
         ensures same { Same self.old self.new }
@@ -89,13 +91,14 @@ impl Text<'_> {
     }
 
     // The whole list: the first line, and then a line for each candidate.
-    // kept: as tried_list.
+    // kept: three numbers that go on to put_header; two lists read side by side, since a list of pairs would be built only to be printed.
     pub fn put_list(&mut self, answer: u32, visits: u32, left: &[u64], right: &[u64], trials: u32)
         requires { self.old.at ≡ 0 }
         ensures same { Same self.old self.new }
         ensures puts { Puts (tried_list answer visits (pairs_of left.now right.now trials)) self.old.out.now self.new.out.now 0 self.new.at }
     {
         self.put_header(answer, trials, visits);
+        // kept: by its number, which is written, and since a place past a list's end is read as 0, where an iterator would end
         for i in 0..trials {
             self.put_line(i, at(left, i, 0), at(right, i, 0));
         }

@@ -1,4 +1,4 @@
-// Sets of leaves as 64-bit numbers, bit i for leaf i (NodeSet of hypergraph.rs), and the numbers' own types.
+// Sets of leaves as 64-bit numbers, bit i for leaf i (NodeSet of hypergraph.rs), the numbers' own types, and the kinds that are asked for by name.
 #![tactic(auto)]
 
 ghost use Rattle.std.specs.Prelude.{◌≡◌, ℕ, bit_or};
@@ -24,6 +24,18 @@ pub struct PredicateId(pub u32);
 // kept: the lent lists hold numbers, and this one stands in them for none.
 pub const NONE: u32 = 4294967295;
 
+// The kind of an item that is an Inner join.
+// kept: a kind is a number, as the sheet and the lent lists hold it: a sheet that is not checked may have any.
+pub const INNER: u32 = 0;
+
+// The kind of an item that is a cross product. The kinds between are the other joins'.
+// kept: as INNER.
+pub const CROSS_PRODUCT: u32 = 8;
+
+// The kind of an item that is a leaf, and of a leaf's plan. No kind is above it.
+// kept: as INNER.
+pub const LEAF: u32 = 9;
+
 // The set of one leaf; empty for a number of 64 or more.
 #[tactic(auto, unfolding(crate::specs::Sets::singleton))]
 pub fn nodeset_singleton(id: NodeId) -> u64
@@ -34,7 +46,7 @@ pub fn nodeset_singleton(id: NodeId) -> u64
 }
 
 // The lowest leaf, and 64 for the empty set.
-// kept: 64 is a bound that the sets of leaves below it are made from, not a sign that nothing was found.
+// kept: document 01 gives 64 for the empty set, and so does lowest. The set of leaf 64 is empty, so a caller that makes a set of the answer need not ask.
 #[tactic(auto, unfolding(crate::specs::Sets::lowest))]
 pub fn nodeset_min(s: u64) -> NodeId
     ensures { result.0 ≡ lowest s }
@@ -43,7 +55,7 @@ pub fn nodeset_min(s: u64) -> NodeId
 }
 
 // The highest leaf, and 64 for the empty set.
-// kept: 64 as in nodeset_min, and no leaf in highest_singleton.
+// kept: 64 as in nodeset_min; highest_singleton, which makes its set, gives the empty one.
 #[tactic(auto, unfolding(crate::specs::Sets::highest))]
 pub fn nodeset_max(s: u64) -> NodeId
     ensures { result.0 ≡ highest s }

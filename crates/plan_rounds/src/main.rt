@@ -5,6 +5,7 @@
 use answer::Report;
 use builder::EdgeLists;
 use nodeset::NONE;
+use planner::{EdgeArrays, ListArrays};
 use std::io;
 use store::Lists;
 
@@ -32,40 +33,11 @@ fn print(rt: &impl Print, r: Report) -> io::Result<()> {
 }
 
 // Lends stores that are long enough for every sheet of the bench, and prints the last call's numbers.
-// kept: the arrays stand in the frame that lends them, as in tried_text; their lengths differ.
 fn run(rt: &impl Print, sheet: &[u8], rounds: u32) -> io::Result<()> {
-    let mut eleft = [0u64; 256];
-    let mut eright = [0u64; 256];
-    let mut epredicate = [0u32; 256];
-    let mut esource = [0u32; 256];
-    let mut ekind = [0u32; 256];
-    let mut pset = [0u64; 32768];
-    let mut pleft = [0u32; 32768];
-    let mut pright = [0u32; 32768];
-    let mut plead = [0u32; 32768];
-    let mut pkind = [0u32; 32768];
-    let mut prows = [0.0f64; 32768];
-    let mut pcost = [0.0f64; 32768];
-    let mut mset = [0u64; 1024];
-    let mut mplan = [0u32; 1024];
-    let mut edges = EdgeLists {
-        left: &mut eleft,
-        right: &mut eright,
-        predicate: &mut epredicate,
-        source: &mut esource,
-        kind: &mut ekind,
-    };
-    let mut lists = Lists {
-        pset: &mut pset,
-        pleft: &mut pleft,
-        pright: &mut pright,
-        plead: &mut plead,
-        pkind: &mut pkind,
-        prows: &mut prows,
-        pcost: &mut pcost,
-        mset: &mut mset,
-        mplan: &mut mplan,
-    };
+    let mut edge_arrays = EdgeArrays::<256>::new(0, 0);
+    let mut list_arrays = ListArrays::<32768, 1024>::new(0, 0, 0.0);
+    let mut edges = edge_arrays.lend();
+    let mut lists = list_arrays.lend();
     print(rt, repeat(sheet, rounds, &mut edges, &mut lists))
 }
 

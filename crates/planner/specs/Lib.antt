@@ -1,3 +1,4 @@
 -- Definitions.
 pub mod ReadBack
 pub mod Rules
+pub mod Stores

@@ -1,6 +1,8 @@
 // The planner's call: a sheet's bytes, a visit limit and the lent lists to an answer. Every sheet, list length and limit gets one.
 #![tactic(auto)]
 
+mod stores;
+
 ghost use Rattle.definition.specs.Call.{default_limit};
 ghost use Rattle.builder.specs.Builds.{SameEdgeLists};
 ghost use Rattle.candidate.specs.Lent.{SameLists};
@@ -12,6 +14,7 @@ use answer::{Answer, Outcome};
 use builder::EdgeLists;
 use checks::Rooms;
 use store::Lists;
+pub use stores::{EdgeArrays, ListArrays};
 
 // Plans the joins of a sheet within limit visits.
 pub fn plan(sheet: &[u8], limit: u32, edges: &mut EdgeLists<'_>, lists: &mut Lists<'_>) -> Answer

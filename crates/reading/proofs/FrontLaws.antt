@@ -1,5 +1,5 @@
 -- What was read of known bytes, into a list that they may fill. Assumes nothing.
-use Rattle.std.proofs.Common.{◌≡◌, ℕ, ◌-◌, ◌≤◌, ◌<◌, true, false, nat_eq, List, Option, None, Some, IfSome, is_some, leb, length, take, refl, sym, ap, ◌∙◌, arith, take_all, le-leb}
+use Rattle.std.proofs.Common.{◌≡◌, ℕ, ◌-◌, ◌≤◌, ◌<◌, true, false, nat_eq, List, Option, None, Some, IfSome, is_some, MatchOption, leb, length, take, refl, sym, ap, ◌∙◌, arith, take_all, le-leb}
 use Rattle.std.specs.Bool.{then_some}
 use Rattle.std.specs.Int.{w32, from_le_bytes}
 use Rattle.std.proofs.lemmas.Bool.{lt-leb, false≢true}
@@ -52,12 +52,21 @@ front_none n bs e = elim (leb n (length bs)) as (λ t. leb n (length bs) ≡ t �
 
 -- ---- the first word
 
-pub first_word_some : (xs bs : List ℕ) → Some xs ≡ front_of 4 bs → from_le_bytes w32 xs ≡ first_word bs
+first_word_some : (xs bs : List ℕ) → Some xs ≡ front_of 4 bs → from_le_bytes w32 xs ≡ first_word bs
 unfolding first_word
 first_word_some xs bs e =
     let there = front_some 4 bs xs e in
     rw (le-leb 4 (length bs) there.0, first_word) (ap (from_le_bytes w32) there.1)
 
-pub first_word_none : (bs : List ℕ) → None ≡ front_of 4 bs → 0 ≡ first_word bs
+first_word_none : (bs : List ℕ) → None ≡ front_of 4 bs → 0 ≡ first_word bs
 unfolding first_word
 first_word_none bs e = rw (lt-leb 4 (length bs) (front_none 4 bs e), first_word) refl
+
+module _ (n : ℕ) where
+  first_word_or : (bs : List ℕ) (r : Option (List ℕ)) → MatchOption r (n ≡ 0) (λ xs. n ≡ from_le_bytes w32 xs) → r ≡ front_of 4 bs → n ≡ first_word bs
+  first_word_or bs None m e = m ∙ first_word_none bs e
+  first_word_or bs (Some xs) m e = m ∙ first_word_some xs bs e
+
+  pub first_word_read : (a r : Option (List ℕ)) → IfSome a (λ bs. r ≡ front_of 4 bs) → MatchOption r (n ≡ 0) (λ xs. n ≡ from_le_bytes w32 xs)
+      → IfSome a (λ bs. n ≡ first_word bs)
+  first_word_read a r h m = on_known a (λ bs e. first_word_or bs r m e) h

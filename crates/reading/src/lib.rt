@@ -42,8 +42,5 @@ pub fn read_word<R: Read>(input: &mut R) -> io::Result<u32>
     ensures value { IfOk result (λ n. IfSome (R.remaining input.old) (λ bs. n ≡ first_word bs)) }
     ensures rest { OnOk result (IfSome (R.remaining input.old) (λ bs. R.remaining input.new ≡ Some (drop 4 bs))) }
 {
-    Ok(match read_array(input)? {
-        Some(head) => u32::from_le_bytes(head),
-        None => 0,
-    })
+    Ok(read_array(input)?.map_or(0, u32::from_le_bytes))
 }

@@ -1,12 +1,11 @@
 -- What was read of known bytes. In each law `a` is what is known before a read, and `b` after it. Assumes nothing.
 use Rattle.std.proofs.Common.{◌≡◌, ℕ, suc, ◌+◌, ◌-◌, ◌<◌, ◌≤◌, Bool, true, false, not, nat_eq, List, [], ◌∷◌, None, Some, IfSome, length, get_or, take, drop, refl, sym, ap, subst, ◌∙◌, arith}
-use Rattle.std.specs.Prelude.{Option}
+use Rattle.std.specs.Prelude.{Option, unwrap_or}
 use Rattle.records.specs.Records.{word_at, line_goes_on, after_line, record_in}
 use Rattle.records.specs.RecordLaws.{word_past}
 use Rattle.records.proofs.PartLaws.{word_of_part}
 use Rattle.reading.specs.Front.{front_of, first_word}
 use Rattle.reading.proofs.FrontLaws.{front_some, front_none}
-use Rattle.std.specs.Int.{w32, from_le_bytes}
 use Rattle.std.proofs.Common.{◌++◌, leb, min, le-leb, take_all}
 use Rattle.std.proofs.lemmas.Bool.{lt-leb}
 use borrow.Author.Tests.{leb-true, leb-false}
@@ -31,17 +30,22 @@ goes_on_read [] bs l h = absurd (omega arith)
 goes_on_read (x ∷ xs) [] l h = cc
 goes_on_read (x ∷ xs) (b ∷ bs) l h = let e : x ≡ b = cc in ap (λ (k : ℕ). not (nat_eq k 10)) e
 
-pub goes_on_some : (xs bs : List ℕ) → Some xs ≡ front_of 1 bs → not (nat_eq (get_or xs 0 0) 10) ≡ line_goes_on bs
+goes_on_some : (xs bs : List ℕ) → Some xs ≡ front_of 1 bs → not (nat_eq (get_or xs 0 0) 10) ≡ line_goes_on bs
 goes_on_some xs bs e =
     let there = front_some 1 bs xs e in
     let one : length xs ≡ 1 = omega (arith, there, length-take 1 bs, ap length there.1) in
     goes_on_read xs bs (omega arith) (take_all 1 xs (omega arith) ∙ there.1)
 
 -- no byte was left
-pub goes_on_none : (bs : List ℕ) → None ≡ front_of 1 bs → false ≡ line_goes_on bs
+goes_on_none : (bs : List ℕ) → None ≡ front_of 1 bs → false ≡ line_goes_on bs
 unfolding line_goes_on
 goes_on_none [] e = refl
 goes_on_none (b ∷ bs) e = absurd (omega (arith, front_none 1 (b ∷ bs) e))
+
+pub goes_on_byte : (r : Option (List ℕ)) (xs bs : List ℕ) → xs ≡ unwrap_or r (10 ∷ []) → r ≡ front_of 1 bs
+    → not (nat_eq (get_or xs 0 0) 10) ≡ line_goes_on bs
+goes_on_byte None xs bs u e = ap (λ (l : List ℕ). not (nat_eq (get_or l 0 0) 10)) u ∙ goes_on_none bs e
+goes_on_byte (Some ys) xs bs u e = ap (λ (l : List ℕ). not (nat_eq (get_or l 0 0) 10)) u ∙ goes_on_some ys bs e
 
 -- so many bytes may still be read of the line, and what follows it is what follows the whole line
 abbrev pub Skipped : Option (List ℕ) → Option (List ℕ) → ℕ → ℕ → Type 0
@@ -92,14 +96,6 @@ skipped_all None b n left z s = tt
 skipped_all (Some bs) b n left z s = s.1 ∙ ap (λ (xs : List ℕ). Some xs) (sym (ap (λ (k : ℕ). after_line k s.0) z) ∙ s.2)
 
 -- ---- the record
-
-pub word_some : (xs bs : List ℕ) → Some xs ≡ front_of 4 bs → from_le_bytes w32 xs ≡ word_at bs 0
-word_some xs bs e =
-    let there = front_some 4 bs xs e in
-    word_of_part bs xs 0 (omega (arith, there)) there.1
-
-pub word_none : (bs : List ℕ) → None ≡ front_of 4 bs → 0 ≡ word_at bs 0
-word_none bs e = sym (word_past bs 0 (omega (arith, front_none 4 bs e)))
 
 -- the word that is read first is the one at byte 0
 pub first_word_is : (bs : List ℕ) → first_word bs ≡ word_at bs 0

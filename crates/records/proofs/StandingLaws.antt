@@ -1,7 +1,10 @@
--- Laws that stood before the structs, kept as they were; no proof needs them now. Assumes nothing.
-use Rattle.std.proofs.Common.{◌≡◌, ◌≢◌, ℕ, ◌<◌, ◌≤◌, nat_eq, List, [], ◌∷◌, length, get_or, take, sym, ap, ◌∙◌, arith}
+-- Laws that stood before today's forms, kept as they were; no proof needs them now. Assumes nothing.
+use Rattle.std.proofs.Common.{◌≡◌, ◌≢◌, ℕ, zero, suc, ◌+◌, ◌-◌, ◌<◌, ◌≤◌, nat_eq, Bool, true, ◌&&◌, List, [], ◌∷◌, length, get_or}
+use Rattle.std.proofs.Common.{take, drop, refl, sym, ap, ◌∙◌, arith, length-take-le, add-one}
 use borrow.Author.Tests.{ne_eqb}
 use Rattle.records.specs.Records.{word_at, line_goes_on}
+use Rattle.records.specs.Listed.{begins}
+use Rattle.std.proofs.Math.Seq.{drop-cons}
 use Rattle.records.specs.RecordLaws.{word_there, word_past}
 use Rattle.definition.specs.Sheet.{word}
 use Rattle.std.proofs.lemmas.List.{get_or-take, length-take}
@@ -24,3 +27,43 @@ word_read n xs bs e l h =
 
 pub word_cut : (n : ℕ) (xs bs : List ℕ) → n < 4 → n ≡ length (take n xs) → take n xs ≡ take 4 bs → 0 ≡ word_at bs 0
 word_cut n xs bs l e h = sym (word_past bs 0 (omega (arith, length-take 4 bs, ap length h)))
+
+-- ---- the recorded values, one after the other
+
+-- the first n alone
+begins_take : {A : Type 0} (is : ℕ → A → Bool) (at step n : ℕ) (xs : List A) → begins is at step n (take n xs) ≡ begins is at step n xs
+unfolding begins
+begins_take is at step zero xs = refl
+begins_take is at step (suc n) [] = refl
+begins_take is at step (suc n) (x ∷ xs) = ap (λ (b : Bool). is at x && b) (begins_take is (at + step) step n xs)
+
+pub begins_front : {A : Type 0} (is : ℕ → A → Bool) (at step n : ℕ) (xs front : List A) → n ≤ length xs → front ≡ take n xs
+    → begins is at step (length front) front ≡ begins is at step n xs
+begins_front is at step n xs front h e =
+    let k : length front ≡ n = ap length e ∙ length-take-le n xs h in
+    ap (λ (m : ℕ). begins is at step m front) k ∙ ap (begins is at step n) e ∙ begins_take is at step n xs
+
+module _ {A : Type 0} (is : ℕ → A → Bool) (at step n : ℕ) (xs : List A) where
+  -- up to place i all are as recorded: from there on, at byte `here`, the answer is that for the whole
+  abbrev pub Begun : ℕ → ℕ → Type 0
+  Begun here i = begins is here step (n - i) (drop i xs) ≡ begins is at step n xs
+
+  pub begun : Begun at 0
+  begun = ap (λ (k : ℕ). begins is at step k xs) (omega arith)
+
+  module _ (here i : ℕ) (b : Begun here i) where
+    pub begun_end : n ≤ i → true ≡ begins is at step n xs
+    unfolding begins
+    begun_end h =
+        let none : n - i ≡ 0 = omega arith in
+        sym (ap (λ (k : ℕ). begins is here step k (drop i xs)) none) ∙ b
+
+    module _ (d : A) (h : i < n) (l : i < length xs) where
+      -- the value there is tested, and then the others decide
+      pub begun_turn : (t : Bool) → is here (get_or xs i d) ≡ t → t && begins is (here + step) step (n - (i + 1)) (drop (i + 1) xs) ≡ begins is at step n xs
+      unfolding begins
+      begun_turn t e =
+          let left : n - i ≡ suc (n - (i + 1)) = omega arith in
+          let turn : begins is here step (n - i) (drop i xs)
+          ≡ is here (get_or xs i d) && begins is (here + step) step (n - (i + 1)) (drop (i + 1) xs) = rw (left, drop-cons xs i d, add-one) in
+          ap (λ (u : Bool). u && begins is (here + step) step (n - (i + 1)) (drop (i + 1) xs)) (sym e) ∙ sym turn ∙ b

@@ -1,13 +1,13 @@
--- A loop over a list, place by place, and the definitions of Listed: one law for each turn and each way out, for any type of element.
--- Assumes nothing.
-use Prim.Native.Nat.{ℕ, zero, suc, ◌+◌, ◌-◌, ◌≤◌, ◌<◌}
+-- A list, place by place, and the definitions of Listed, for any type of element. Assumes nothing.
+use Prim.Native.Nat.{ℕ, zero, suc, ◌+◌, ◌*◌, ◌≤◌, ◌<◌}
 use Rattle.std.specs.Prelude.{Bool, true, false, ◌&&◌, not, List, [], ◌∷◌, ◌≡◌, refl, length, get_or, take, drop}
 use Rattle.std.proofs.lemmas.Bool.{false≢true, not-true, not-false}
 use Rattle.std.proofs.Math.Bool.{and-true, and-false}
 use Rattle.std.proofs.Math.Path.{sym, ap}
-use Rattle.std.proofs.Common.{◌∙◌, drop_of_length-le, length-take-le, add-one}
+use Rattle.std.proofs.Common.{◌∙◌, drop_of_length-le, add-one}
 use Rattle.std.proofs.Math.Seq.{drop-cons}
 use native.Mathlib.Omega.{arith}
+use Rattle.std.specs.List.{list_all, enumerate_from}
 use Rattle.records.specs.Listed.{begins, every, all_of}
 
 -- ---- the recorded values
@@ -20,43 +20,15 @@ begins_short is at step (suc n) [] h = refl
 begins_short is at step (suc n) (x ∷ xs) h =
     sym (and-false (is at x)) ∙ ap (λ (b : Bool). is at x && b) (begins_short is (at + step) step n xs (omega arith))
 
--- the first n alone
-begins_take : {A : Type 0} (is : ℕ → A → Bool) (at step n : ℕ) (xs : List A) → begins is at step n (take n xs) ≡ begins is at step n xs
+-- the first n with their numbers from i on, each tested at its place
+pub begins_numbered : {A : Type 0} (is : ℕ → A → Bool) (at step i n : ℕ) (xs : List A) → n ≤ length xs
+    → list_all (λ p. is (at + step * p.0) p.1) (enumerate_from i (take n xs)) ≡ begins is (at + step * i) step n xs
 unfolding begins
-begins_take is at step zero xs = refl
-begins_take is at step (suc n) [] = refl
-begins_take is at step (suc n) (x ∷ xs) = ap (λ (b : Bool). is at x && b) (begins_take is (at + step) step n xs)
-
-pub begins_front : {A : Type 0} (is : ℕ → A → Bool) (at step n : ℕ) (xs front : List A) → n ≤ length xs → front ≡ take n xs
-    → begins is at step (length front) front ≡ begins is at step n xs
-begins_front is at step n xs front h e =
-    let k : length front ≡ n = ap length e ∙ length-take-le n xs h in
-    ap (λ (m : ℕ). begins is at step m front) k ∙ ap (begins is at step n) e ∙ begins_take is at step n xs
-
-module _ {A : Type 0} (is : ℕ → A → Bool) (at step n : ℕ) (xs : List A) where
-  -- up to place i all are as recorded: from there on, at byte `here`, the answer is that for the whole
-  abbrev pub Begun : ℕ → ℕ → Type 0
-  Begun here i = begins is here step (n - i) (drop i xs) ≡ begins is at step n xs
-
-  pub begun : Begun at 0
-  begun = ap (λ (k : ℕ). begins is at step k xs) (omega arith)
-
-  module _ (here i : ℕ) (b : Begun here i) where
-    pub begun_end : n ≤ i → true ≡ begins is at step n xs
-    unfolding begins
-    begun_end h =
-        let none : n - i ≡ 0 = omega arith in
-        sym (ap (λ (k : ℕ). begins is here step k (drop i xs)) none) ∙ b
-
-    module _ (d : A) (h : i < n) (l : i < length xs) where
-      -- the value there is tested, and then the others decide
-      pub begun_turn : (t : Bool) → is here (get_or xs i d) ≡ t → t && begins is (here + step) step (n - (i + 1)) (drop (i + 1) xs) ≡ begins is at step n xs
-      unfolding begins
-      begun_turn t e =
-          let left : n - i ≡ suc (n - (i + 1)) = omega arith in
-          let turn : begins is here step (n - i) (drop i xs)
-          ≡ is here (get_or xs i d) && begins is (here + step) step (n - (i + 1)) (drop (i + 1) xs) = rw (left, drop-cons xs i d, add-one) in
-          ap (λ (u : Bool). u && begins is (here + step) step (n - (i + 1)) (drop (i + 1) xs)) (sym e) ∙ sym turn ∙ b
+begins_numbered is at step i zero xs h = refl
+begins_numbered is at step i (suc n) [] h = absurd (omega arith)
+begins_numbered is at step i (suc n) (x ∷ xs) h =
+    let next : at + step * (i + 1) ≡ at + step * i + step = omega arith in
+    ap (λ (b : Bool). is (at + step * i) x && b) (begins_numbered is at step (i + 1) n xs (omega arith) ∙ ap (λ (k : ℕ). begins is k step n xs) next)
 
 -- ---- the pattern behind them
 

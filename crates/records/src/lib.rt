@@ -25,37 +25,30 @@ fn part<const N: usize>(bytes: &[u8], at: usize) -> Option<&[u8; N]>
 }
 
 // The word there, and 0 past the end.
-// kept: 0 past the end: no record has the length 0, so a cut record is found by it.
+// kept: 0 past the end, as the definition (word_at) reads it; an Option would be unmade at once by nearly every caller.
+#[tactic(auto, using(crate::proofs::PartLaws::word_of_part, crate::specs::RecordLaws::word_past))]
 pub fn word(bytes: &[u8], at: usize) -> u32
     ensures { result ≡ word_at bytes.now at }
 {
-    match part::<4>(bytes, at) {
-        Some(part) => u32::from_le_bytes(*part),
-        None => 0,
-    }
+    part::<4>(bytes, at).map_or(0, |part| u32::from_le_bytes(*part))
 }
 
 // The long there, and 0 past the end.
 // kept: as word, of which it differs in a number's length and type, which part::<N> serves.
+#[tactic(auto, using(crate::proofs::PartLaws::long_of_part, crate::specs::RecordLaws::long_past))]
 pub fn long(bytes: &[u8], at: usize) -> u64
     ensures { result ≡ long_at bytes.now at }
 {
-    match part::<8>(bytes, at) {
-        Some(part) => u64::from_le_bytes(*part),
-        None => 0,
-    }
+    part::<8>(bytes, at).map_or(0, |part| u64::from_le_bytes(*part))
 }
 
-// Reads one byte, and answers whether the line goes on.
+// Reads one byte, and answers whether the line goes on. It ends where the input does, as at a newline.
 fn goes_on<R: Read>(input: &mut R) -> io::Result<bool>
     ensures value { IfOk result (λ more. IfSome (R.remaining input.old) (λ bs. more ≡ line_goes_on bs)) }
     ensures rest { OnOk result (IfSome (R.remaining input.old) (λ bs. R.remaining input.new ≡ Some (drop 1 bs))) }
 {
-    let read: Option<[u8; 1]> = reading::read_array(input)?;
-    Ok(match read {
-        Some(byte) => byte[0] != 10,
-        None => false,
-    })
+    let byte: [u8; 1] = reading::read_array(input)?.unwrap_or([b'\n']);
+    Ok(byte[0] != b'\n')
 }
 
 // Reads the line of text, of at most 4,096 bytes.
@@ -72,7 +65,7 @@ pub fn skip_line<R: Read>(input: &mut R) -> io::Result<()>
 
 // Reads a record without its first word to the start of buf, and answers how many bytes it has; none where the input ends, or has no whole
 // record that buf has room for, or one with its first word alone.
-// kept: none is an Option's; how many bytes stand in buf is what the caller slices it by.
+// How many bytes stand in buf is what the caller slices it by.
 pub fn next_record<R: Read>(input: &mut R, buf: &mut [u8]) -> io::Result<Option<usize>>
     ensures bound { IfOk result (λ r. IfSome r (λ n. (0 < n) × (n ≤ length buf.new))) }
     ensures value { IfOk result (λ r. IfSome (R.remaining input.old) (λ bs. take (unwrap_or r 0) buf.new ≡ record_in (length buf.old) bs)) }

@@ -87,16 +87,11 @@ fn begins<E: Element>(list: &[E], bytes: &[u8], at: usize, step: usize, n: usize
     requires { (at ≤ 65536) × (step ≤ 64) × (n ≤ 4096) }
     ensures { result ≡ begins (E.recorded bytes.now) at step n list.now }
 {
-    if list.len() < n {
-        return false;
-    }
-    let front = &list[..n];
-    for (i, x) in front.iter().enumerate() {
-        if !x.is_recorded(bytes, at + step * i) {
-            return false;
-        }
-    }
-    true
+    list.len() >= n
+        && list[..n]
+            .iter()
+            .enumerate()
+            .all(|(i, x)| x.is_recorded(bytes, at + step * i))
 }
 
 // Whether the places from n on have the pattern.

@@ -83,6 +83,7 @@ pub fn run(
     let n = hypergraph::build_hypergraph(&q.sheet, edges);
     let built = built(edges, n as usize);
     let r = search_plans(q, rooms, limit, &built, lists);
+    // Three of the search's four fields, since its stop is in the ending; the edges it doesn't count.
     Outcome {
         ending: r.ending,
         edges: n,

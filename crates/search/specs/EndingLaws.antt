@@ -9,18 +9,18 @@ use Rattle.store.specs.declared.Stop as declared
 use Rattle.store.specs.declared.Stop.TheVariants as stop
 use Rattle.store.specs.Counts.{stop_with}
 use Rattle.held.specs.MemoHeld.{to_kept}
-use Rattle.search.specs.declared.Unplanned.TheVariants.{PlansFull, MemoFull, VisitsSpent}
+use Rattle.search.specs.declared.Unplanned.TheVariants.{Stopped}
 use Rattle.search.specs.View.{ending_number, chosen_of, ending_for, ending_of}
 
 -- ---- the ending, one law for each way through `ended`
 
-pub ends_plans : (s : Option declared.Stop) (k : Option PlanId) → s ≡ Some stop.PlansFull → Err PlansFull ≡ ending_of s k
+pub ends_plans : (s : Option declared.Stop) (k : Option PlanId) → s ≡ Some stop.PlansFull → Err (Stopped stop.PlansFull) ≡ ending_of s k
 ends_plans s k e = rw e
 
-pub ends_memo : (s : Option declared.Stop) (k : Option PlanId) → s ≡ Some stop.MemoFull → Err MemoFull ≡ ending_of s k
+pub ends_memo : (s : Option declared.Stop) (k : Option PlanId) → s ≡ Some stop.MemoFull → Err (Stopped stop.MemoFull) ≡ ending_of s k
 ends_memo s k e = rw e
 
-pub ends_visits : (s : Option declared.Stop) (k : Option PlanId) → s ≡ Some stop.VisitsSpent → Err VisitsSpent ≡ ending_of s k
+pub ends_visits : (s : Option declared.Stop) (k : Option PlanId) → s ≡ Some stop.VisitsSpent → Err (Stopped stop.VisitsSpent) ≡ ending_of s k
 ends_visits s k e = rw e
 
 pub ends_so : (s : Option declared.Stop) (k : Option PlanId) → s ≡ None → ending_for k ≡ ending_of s k

@@ -11,7 +11,7 @@ use Rattle.candidate.specs.Store as store
 use Rattle.candidate.specs.Store.{Given, Lists}
 use Rattle.held.specs.Held.{Roomy}
 use Rattle.search.specs.declared.Unplanned.{Unplanned}
-use Rattle.search.specs.declared.Unplanned.TheVariants.{NoPlan, PlansFull, MemoFull, VisitsSpent}
+use Rattle.search.specs.declared.Unplanned.TheVariants.{NoPlan, Stopped}
 
 -- each edge has two sides; the leaves fit a set and both stores, and the lists are as long as their stores
 pub record Ready (g : Given) (h : Lists) (n : ℕ) : Type 0 where
@@ -26,9 +26,9 @@ pub record Ready (g : Given) (h : Lists) (n : ℕ) : Type 0 where
 abbrev pub ending_number : Result PlanId Unplanned → ℕ
 ending_number (Ok p) = planned
 ending_number (Err NoPlan) = no_plan
-ending_number (Err PlansFull) = plans_full
-ending_number (Err MemoFull) = memo_full
-ending_number (Err VisitsSpent) = visits_spent
+ending_number (Err (Stopped stop.PlansFull)) = plans_full
+ending_number (Err (Stopped stop.MemoFull)) = memo_full
+ending_number (Err (Stopped stop.VisitsSpent)) = visits_spent
 
 abbrev pub chosen_of : Result PlanId Unplanned → ℕ
 chosen_of (Ok p) = p.0
@@ -46,9 +46,7 @@ ending_for (Some p) = Ok p
 ending_for None = Err NoPlan
 
 abbrev pub unplanned_of : declared.Stop → Unplanned
-unplanned_of stop.PlansFull = PlansFull
-unplanned_of stop.MemoFull = MemoFull
-unplanned_of stop.VisitsSpent = VisitsSpent
+unplanned_of s = Stopped s
 
 -- from what stopped the search, if anything did, and that plan
 abbrev pub ending_of : Option declared.Stop → Option PlanId → Result PlanId Unplanned

@@ -17,24 +17,19 @@ use cost::Leaf;
 use nodeset::{NONE, NodeId, PlanId};
 use store::{DPhyp, Input, Lists, Stop};
 
-// Why no plan is chosen: none is kept for the set of all leaves, or what stopped the search. The numbers are the answers' own.
+// Why no plan is chosen: none is kept for the set of all leaves, or what stopped the search.
+// kept: both are reasons; an Option of the stop would have none for the first.
 #[derive(Clone, Copy, Debug, PartialEq, Eq)]
 pub enum Unplanned {
-    NoPlan = 15,
-    PlansFull = 12,
-    MemoFull = 13,
-    VisitsSpent = 14,
+    NoPlan,
+    Stopped(Stop),
 }
 
 impl From<Stop> for Unplanned {
     ghost from_gives = { λ s e. e ≡ unplanned_of s };
 
     fn from(stop: Stop) -> Unplanned {
-        match stop {
-            Stop::PlansFull => Unplanned::PlansFull,
-            Stop::MemoFull => Unplanned::MemoFull,
-            Stop::VisitsSpent => Unplanned::VisitsSpent,
-        }
+        Unplanned::Stopped(stop)
     }
 }
 
@@ -42,12 +37,14 @@ impl From<Stop> for Unplanned {
 pub type Ending = Result<PlanId, Unplanned>;
 
 // Document 01's number for it.
+// kept: a match, since a stop has a number of its own.
 pub fn number(ending: Ending) -> u32
     ensures { result ≡ ending_number ending }
 {
     match ending {
         Ok(_) => 0,
-        Err(e) => e as u32,
+        Err(Unplanned::NoPlan) => 15,
+        Err(Unplanned::Stopped(stop)) => stop.number(),
     }
 }
 
@@ -56,10 +53,7 @@ pub fn number(ending: Ending) -> u32
 pub fn chosen(ending: Ending) -> u32
     ensures { result ≡ chosen_of ending }
 {
-    match ending {
-        Ok(p) => p.0,
-        Err(_) => NONE,
-    }
+    ending.map_or(NONE, |p| p.0)
 }
 
 // What a search left: its counts, and how it ended.
@@ -85,11 +79,11 @@ fn write_leaves(leaves: &[Leaf], l: &mut Lists<'_>)
 fn ended(l: &Lists<'_>, leaves: u32, p: DPhyp) -> Ending
     ensures { result ≡ ending_of p.stop (kept_of l.now.mplan.now (spot 0 (take p.memo l.now.mset.now) (all_below leaves))) }
 {
-    if let Some(stop) = p.stop {
-        return Err(Unplanned::from(stop));
-    }
     let all = nodeset::all_nodes_mask(leaves);
-    store::kept_plan(l.mset, l.mplan, p.memo, all).ok_or(Unplanned::NoPlan)
+    match p.stop {
+        Some(stop) => Err(Unplanned::from(stop)),
+        None => store::kept_plan(l.mset, l.mplan, p.memo, all).ok_or(Unplanned::NoPlan),
+    }
 }
 
 // The search over these leaves.

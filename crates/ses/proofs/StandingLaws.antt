@@ -1,7 +1,7 @@
--- Laws that stood before the structs, kept as they were; no proof needs them now. Assumes nothing.
-use Rattle.std.specs.Prelude.{◌≡◌, ◌&&◌, ℕ, ◌+◌, ◌<◌, ◌≤◌, length, get_or, eqb}
+-- Laws that stood before the structs, or before `has_column` searched by `any`, kept as they were; no proof needs them now. Assumes nothing.
+use Rattle.std.specs.Prelude.{◌≡◌, ◌&&◌, [], ◌∷◌, ℕ, ◌+◌, ◌<◌, ◌≤◌, length, get_or, eqb}
 use Rattle.std.proofs.Math.Path.{sym, ap}
-use Rattle.std.proofs.Common.{◌∙◌, add-one}
+use Rattle.std.proofs.Common.{◌∙◌, add-one, eq-eqb, ne_eqb}
 use mathlib.Core.List.{List}
 use Rattle.std.proofs.Math.Bool.{true, false}
 use native.Mathlib.Omega.{arith}
@@ -57,3 +57,17 @@ module _ (n : ℕ) (f : ℕ → List ℕ) (s c k : ℕ) where
   holder_none h g =
       let e : k ≡ n = omega arith in
       sym (ap (λ (l : List (List ℕ)). holder k l s c) (ap (λ (j : ℕ). drop j (tabulate n f)) e ∙ tabulate_end n f))
+
+-- ---- a column among others
+
+pub member_hit : (c x : ℕ) (xs : List ℕ) → x ≡ c → true ≡ member c (x ∷ xs)
+unfolding member
+member_hit c x xs e = rw (eq-eqb _ _ e)
+
+pub member_miss : (c x : ℕ) (xs : List ℕ) → (x ≡ c → ⊥) → member c xs ≡ member c (x ∷ xs)
+unfolding member
+member_miss c x xs e = rw (ne_eqb _ _ e)
+
+pub member_none : (c : ℕ) (xs : List ℕ) → xs ≡ [] → false ≡ member c xs
+unfolding member
+member_none c xs e = sym (ap (member c) e)

@@ -1,5 +1,5 @@
 -- Laws of what the loops leave to do. Assumes nothing.
-use Rattle.std.specs.Prelude.{◌≡◌, refl, Bool, ◌&&◌, ℕ, zero, suc, ◌+◌, ◌-◌, ◌^◌, ◌<◌, ◌≤◌, length, get_or, take, eqb}
+use Rattle.std.specs.Prelude.{◌≡◌, refl, Bool, ◌&&◌, ◌||◌, ℕ, zero, suc, ◌+◌, ◌-◌, ◌^◌, ◌<◌, ◌≤◌, length, get_or, take, eqb}
 use Rattle.std.proofs.Math.Path.{sym, ap, subst}
 use Rattle.std.proofs.Common.{ap₂, ◌∙◌, inl, inr, add-one, drop-cons, drop_of_length-le, length-take-le, get_or-take, eq-eqb, ne_eqb, eqb-true}
 use mathlib.Core.List.{List, [], ◌∷◌, ◌++◌, map}
@@ -10,6 +10,7 @@ use Rattle.std.proofs.lemmas.List.{length-map}
 use Rattle.std.proofs.Math.Pow.{pow-lt}
 use Rattle.std.specs.Int.Bits.{bit_and, bit_or}
 use Rattle.std.proofs.lemmas.Bool.{eqb-false}
+use Rattle.std.specs.List.{list_any, range_with_len}
 use Rattle.nodeset.specs.Sets.{bit, singleton, disjoint}
 use Rattle.nodeset.specs.SetLaws.{Apart, bit-lt, bit-and, bit_one, bit_one_cases, bit_empty, singleton_is, apart_disjoint}
 use Rattle.definition.specs.Lists.{member, concat_map}
@@ -43,17 +44,14 @@ rest_step {A} first count xs i d h k =
 
 -- ---- a column among others
 
-pub member_hit : (c x : ℕ) (xs : List ℕ) → x ≡ c → true ≡ member c (x ∷ xs)
+-- whether c is one of the n columns that are left from place i of a range on
+pub member_any : (c first count : ℕ) (xs : List ℕ) → first + count ≤ length xs → (n i : ℕ) → i + n ≡ count
+    → list_any (λ k. eqb (get_or xs (first + k) 0) c) (range_with_len i n) ≡ member c (rest first count xs i)
 unfolding member
-member_hit c x xs e = rw (eq-eqb _ _ e)
-
-pub member_miss : (c x : ℕ) (xs : List ℕ) → (x ≡ c → ⊥) → member c xs ≡ member c (x ∷ xs)
-unfolding member
-member_miss c x xs e = rw (ne_eqb _ _ e)
-
-pub member_none : (c : ℕ) (xs : List ℕ) → xs ≡ [] → false ≡ member c xs
-unfolding member
-member_none c xs e = sym (ap (member c) e)
+member_any c first count xs h zero i e = rw (rest_end first count xs i (omega arith)) refl
+member_any c first count xs h (suc n) i e =
+    rw (rest_step first count xs i 0 (omega arith) h)
+    (ap (λ b. eqb (get_or xs (first + i) 0) c || b) (member_any c first count xs h n (i + 1) (omega arith)))
 
 -- ---- the leaves of a side
 
@@ -124,6 +122,11 @@ module _ (ls : List (List ℕ)) (s c k : ℕ) where
   pub holder_none : length ls ≤ k → 0 ≡ holder k from_k s c
   unfolding holder
   holder_none h = sym (ap (λ (l : List (List ℕ)). holder k l s c) (drop_of_length-le ls h))
+
+-- the same of a leaf's range
+pub leaf_held : (sheet : List ℕ) (leaves : List range.Range) (s c k : ℕ) → k < length leaves
+    → (eqb (bit s k) 1 && member c (columns_at sheet (leaf_range leaves k).first (leaf_range leaves k).count)) ≡ held_here (leaves_of sheet leaves) s c k
+leaf_held sheet leaves s c k h = ap (λ (cs : List ℕ). eqb (bit s k) 1 && member c cs) (sym (leaf_columns sheet leaves k h))
 
 -- ---- columns one by one, predicates one by one
 

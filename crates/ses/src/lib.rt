@@ -2,7 +2,7 @@
 // range of the sheet's columns; leaf k's is at place k.
 #![tactic(auto)]
 
-ghost use Rattle.std.specs.Prelude.{◌≡◌, ◌&&◌, [], ◌<◌, length, get_or, eqb};
+ghost use Rattle.std.specs.Prelude.{◌≡◌, ◌&&◌, ◌<◌, eqb};
 ghost use Rattle.nodeset.specs.Sets.{bit};
 ghost use Rattle.definition.specs.Lists.{member};
 ghost use Rattle.definition.specs.Question.{part};
@@ -20,12 +20,7 @@ fn has_column(sheet: &Sheet<'_>, r: Range, c: u32) -> bool
     ensures { result ≡ member c (columns_at sheet.now.bytes.now r.first r.count) }
 {
     let first = r.first as usize;
-    for i in 0..r.count as usize {
-        if sheet.column(first + i) == c {
-            return true;
-        }
-    }
-    false
+    (0..r.count as usize).any(|i| sheet.column(first + i) == c)
 }
 
 // A side of a join: the leaves so far, each with the range of its columns, and the set of those that are in the side.
@@ -38,23 +33,23 @@ struct Side<'a> {
 }
 
 impl Side<'_> {
-    // Whether leaf k is in the side and has the column c.
-    fn holds(&self, k: usize, c: u32) -> bool
-        requires { k < length self.now.leaves.now }
-        ensures { result ≡ (eqb (bit self.now.set k) 1 && member c (get_or (leaves_of self.now.sheet.bytes.now self.now.leaves.now) k [])) }
+    // Whether leaf k is in the side and has the column c. r: the range of its columns.
+    fn holds(&self, k: usize, r: Range, c: u32) -> bool
+        requires { (k < 64) × Fit self.now.sheet.bytes.now r.first r.count }
+        ensures { result ≡ (eqb (bit self.now.set k) 1 && member c (columns_at self.now.sheet.bytes.now r.first r.count)) }
     {
         if nodeset::is_disjoint(nodeset::nodeset_singleton(NodeId(k as u32)), self.set) {
             return false;
         }
-        has_column(&self.sheet, self.leaves[k], c)
+        has_column(&self.sheet, r, c)
     }
 
     // The lowest of the leaves that is in the side and has the column c, as a set.
     fn holder(&self, c: u32) -> u64
         ensures { result ≡ holder 0 (leaves_of self.now.sheet.bytes.now self.now.leaves.now) self.now.set c }
     {
-        for k in 0..self.leaves.len() {
-            if self.holds(k, c) {
+        for (k, r) in self.leaves.iter().enumerate() {
+            if self.holds(k, *r, c) {
                 return nodeset::nodeset_singleton(NodeId(k as u32));
             }
         }
@@ -89,7 +84,7 @@ pub fn side_set(sheet: &Sheet<'_>, leaves: &[Range], side: u64, p: Range) -> u64
     };
     let mut u: u64 = 0;
     for i in 0..p.count {
-        let r = sheet.predicate_range(PredicateId(p.first + i));
+        let r = sheet.predicate(PredicateId(p.first + i)).range;
         u = s.with_holders(r, u);
     }
     if u == 0 { side } else { u }

@@ -5,9 +5,17 @@ use Rattle.definition.specs.Sheet.{item_count, item_offset, predicate_count, pre
 use Rattle.definition.specs.Accepted.{Framed}
 use Rattle.sheet.specs.declared.Sections.{Sections}
 use Rattle.sheet.specs.declared.Range.{Range}
+use Rattle.sheet.specs.declared.Item.{Item}
+use Rattle.sheet.specs.declared.Predicate.{Predicate}
 
 abbrev pub range_of : Range → question.Range
 range_of r = record { first = r.first; count = r.count }
+
+abbrev pub item_of : Item → question.Item
+item_of i = record { kind = i.kind; rows = i.rows; range = range_of i.range }
+
+abbrev pub predicate_of : Predicate → question.Predicate
+predicate_of p = record { selectivity = p.selectivity; range = range_of p.range }
 
 -- where the sections of a sheet stand, by its header; an item takes 16 bytes
 abbrev pub sections_of : List ℕ → Sections

@@ -3,8 +3,10 @@
 
 ghost use Rattle.sheet.specs.Views.{Placed};
 
+mod items;
 mod read;
 
+pub use items::Items;
 pub use read::{sections_of, word};
 
 // Where a table starts, in bytes, and how many entries it has.
@@ -28,6 +30,22 @@ pub struct Sections {
 pub struct Range {
     pub first: u32,
     pub count: u32,
+}
+
+// An item of the walk. Of one that is no leaf, rows is the word that should be 0; the range is a leaf's of columns, or a join's of predicates.
+// kept: a kind is a number: a sheet may hold any until it is checked, and the lent lists hold it as one.
+#[derive(Clone, Copy)]
+pub struct Item {
+    pub kind: u32,
+    pub rows: u64,
+    pub range: Range,
+}
+
+// The part of row pairs that a predicate keeps, in 65,536ths, and the range of columns that it names.
+#[derive(Clone, Copy)]
+pub struct Predicate {
+    pub selectivity: u32,
+    pub range: Range,
 }
 
 // The bytes of a sheet whose header has passed, and where its sections stand.

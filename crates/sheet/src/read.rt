@@ -1,10 +1,10 @@
 // The fields of a sheet whose header has passed, read where they stand.
-ghost use Rattle.std.specs.Prelude.{◌≡◌, ◌+◌, ◌*◌, ◌<◌, ◌≤◌, length, get_or};
-ghost use Rattle.definition.specs.Question.{item, predicate, open_question, leaf_count, ends_with_one, is_walk};
+ghost use Rattle.std.specs.Prelude.{◌≡◌, ◌+◌, ◌<◌, ◌≤◌, length, get_or};
+ghost use Rattle.definition.specs.Question.{item, predicate};
 ghost use Rattle.definition.specs.Sheet.{word, range, question_of};
-ghost use Rattle.sheet.specs.Views.{range_of, sections_of};
+ghost use Rattle.sheet.specs.Views.{range_of, item_of, predicate_of, sections_of};
 
-use crate::{Range, Section, Sections, Sheet};
+use crate::{Item, Predicate, Range, Section, Sections, Sheet};
 use nodeset::PredicateId;
 
 // The word whose four bytes start at `at`, the lowest first.
@@ -50,63 +50,30 @@ pub fn sections_of(sheet: &[u8]) -> Sections
 }
 
 impl Sheet<'_> {
-    // The first byte of item i.
-    // kept: each reader of an item asks that there is one; an item as a struct would be made for each call and read once.
-    fn item_start(&self, i: usize) -> usize
+    // Item i.
+    pub fn item(&self, i: usize) -> Item
         requires { i < self.now.sections.items.count }
-        ensures { result ≡ 24 + 16 * i }
+        ensures item { item_of result ≡ item (question_of self.now.bytes.now) i }
+        ensures few { result.rows ≤ 281474976710656 }
     {
-        self.sections.items.offset + self.sections.stride * i
+        let at = self.sections.items.offset + self.sections.stride * i;
+        Item {
+            kind: word(self.bytes, at),
+            rows: u64::from(word(self.bytes, at + 4)),
+            range: range(self.bytes, at + self.sections.stride - 8),
+        }
     }
 
-    // The kind of item i.
-    // kept: a kind is a number: a sheet may hold any until it is checked, and the lent lists hold it as one.
-    pub fn item_kind(&self, i: usize) -> u32
-        requires { i < self.now.sections.items.count }
-        ensures { result ≡ (item (question_of self.now.bytes.now) i).kind }
-    {
-        let at = self.item_start(i);
-        word(self.bytes, at)
-    }
-
-    // Of an item that is no leaf, the word that should be 0.
-    // kept: it asks that there is such an item, as said at item_start.
-    pub fn item_rows(&self, i: usize) -> u64
-        requires { i < self.now.sections.items.count }
-        ensures { (result ≡ (item (question_of self.now.bytes.now) i).rows) × (result ≤ 281474976710656) }
-    {
-        let at = self.item_start(i);
-        u64::from(word(self.bytes, at + 4))
-    }
-
-    // A leaf's range of columns, or a join's of predicates: an item's last two words.
-    // kept: it asks that there is such an item, as said at item_start.
-    pub fn item_range(&self, i: usize) -> Range
-        requires { i < self.now.sections.items.count }
-        ensures { range_of result ≡ (item (question_of self.now.bytes.now) i).range }
-    {
-        let at = self.item_start(i);
-        range(self.bytes, at + self.sections.stride - 8)
-    }
-
-    // The part of row pairs that predicate p keeps, in 65,536ths.
-    // kept: beside predicate_range, as said there.
-    pub fn predicate_selectivity(&self, p: PredicateId) -> u32
+    // Predicate p.
+    pub fn predicate(&self, p: PredicateId) -> Predicate
         requires { p.0 < self.now.sections.predicates.count }
-        ensures { result ≡ (predicate (question_of self.now.bytes.now) p.0).selectivity }
+        ensures { predicate_of result ≡ predicate (question_of self.now.bytes.now) p.0 }
     {
-        let i = p.0 as usize;
-        word(self.bytes, self.sections.predicates.offset + 12 * i)
-    }
-
-    // The range of columns that predicate p names.
-    // kept: beside predicate_selectivity, since the two fields are of different types.
-    pub fn predicate_range(&self, p: PredicateId) -> Range
-        requires { p.0 < self.now.sections.predicates.count }
-        ensures { range_of result ≡ (predicate (question_of self.now.bytes.now) p.0).range }
-    {
-        let i = p.0 as usize;
-        range(self.bytes, self.sections.predicates.offset + 12 * i + 4)
+        let at = self.sections.predicates.offset + 12 * p.0 as usize;
+        Predicate {
+            selectivity: word(self.bytes, at),
+            range: range(self.bytes, at + 4),
+        }
     }
 
     // Column i.
@@ -115,48 +82,5 @@ impl Sheet<'_> {
         ensures { result ≡ get_or (question_of self.now.bytes.now).columns i 0 }
     {
         word(self.bytes, self.sections.columns.offset + 4 * i)
-    }
-
-    // How many items are leaves.
-    // kept: a kind is a number: a sheet may hold any until it is checked, and the lent lists hold it as one.
-    pub fn leaf_count(&self) -> u32
-        ensures { result ≡ leaf_count (open_question (question_of self.now.bytes.now)).items }
-    {
-        let mut leaves = 0;
-        for i in 0..self.sections.items.count {
-            if self.item_kind(i) == 9 {
-                leaves += 1;
-            }
-        }
-        leaves
-    }
-
-    // Leaves and joins, with their number on the pile: one remains at the end.
-    // kept: a kind is a number: a sheet may hold any until it is checked, and the lent lists hold it as one.
-    fn ends_with_one(&self) -> bool
-        ensures { result ≡ ends_with_one (open_question (question_of self.now.bytes.now)).items 0 }
-    {
-        let mut height: usize = 0;
-        for i in 0..self.sections.items.count {
-            if self.item_kind(i) == 9 {
-                height += 1;
-            } else {
-                if height < 2 {
-                    return false;
-                }
-                height -= 1;
-            }
-        }
-        height == 1
-    }
-
-    // Whether the items are a walk; no items are one.
-    pub fn is_walk(&self) -> bool
-        ensures { result ≡ is_walk (open_question (question_of self.now.bytes.now)).items }
-    {
-        if self.sections.items.count == 0 {
-            return true;
-        }
-        self.ends_with_one()
     }
 }

@@ -1,6 +1,6 @@
 // The cases. In the joined sheet the words stand at: header 0 to 20; leaf 0 at 24 to 36; leaf 1 at 40 to 52; the join at 56 to 68;
 // the predicate at 72 to 80; the columns at 84 to 96.
-use crate::writing::{cut, made, remade, replaced};
+use crate::writing::{cut, made, replaced};
 use std::io;
 
 pub fn lengths(rt: &impl Print) -> io::Result<()> {
@@ -10,7 +10,7 @@ pub fn lengths(rt: &impl Print) -> io::Result<()> {
     cut(rt, b"one byte short", 99)?;
     cut(rt, b"two leaves and a join", 100)?;
     cut(rt, b"one byte long", 101)?;
-    made(rt, b"no items, length 24", 0, 0, 0, 0)
+    made(rt, b"no items, length 24", 0, 0, 0, 0, &[])
 }
 
 // kept: a list of cases, which differs from the others in each name and number.
@@ -22,11 +22,20 @@ pub fn counts(rt: &impl Print) -> io::Result<()> {
         63,
         256,
         4096,
+        &[],
     )?;
-    made(rt, b"128 items", 64, 64, 0, 0)?;
-    made(rt, b"257 predicates", 1, 0, 257, 0)?;
-    made(rt, b"4097 columns", 1, 0, 0, 4097)?;
-    remade(rt, b"4097 columns, and the item offset 25", 1, 4097, 4, 25)
+    made(rt, b"128 items", 64, 64, 0, 0, &[])?;
+    made(rt, b"257 predicates", 1, 0, 257, 0, &[])?;
+    made(rt, b"4097 columns", 1, 0, 0, 4097, &[])?;
+    made(
+        rt,
+        b"4097 columns, and the item offset 25",
+        1,
+        0,
+        0,
+        4097,
+        &[(4, 25)],
+    )
 }
 
 pub fn offsets(rt: &impl Print) -> io::Result<()> {
@@ -151,26 +160,27 @@ pub fn order(rt: &impl Print) -> io::Result<()> {
 
 // kept: a list of cases, which differs from the others in each name and number.
 pub fn leaves(rt: &impl Print) -> io::Result<()> {
-    made(rt, b"64 leaves, 63 joins", 64, 63, 0, 0)?;
-    made(rt, b"64 leaves, no join", 64, 0, 0, 0)?;
-    made(rt, b"65 leaves, no join", 65, 0, 0, 0)?;
-    made(rt, b"65 leaves, 62 joins", 65, 62, 0, 0)?;
-    remade(
+    made(rt, b"64 leaves, 63 joins", 64, 63, 0, 0, &[])?;
+    made(rt, b"64 leaves, no join", 64, 0, 0, 0, &[])?;
+    made(rt, b"65 leaves, no join", 65, 0, 0, 0, &[])?;
+    made(rt, b"65 leaves, 62 joins", 65, 62, 0, 0, &[])?;
+    made(
         rt,
         b"a join that finds nothing, then 65 leaves",
         66,
         0,
-        24,
-        8,
+        0,
+        0,
+        &[(24, 8)],
     )
 }
 
 // kept: a list of cases, which differs from the others in each name and number.
 pub fn walks(rt: &impl Print) -> io::Result<()> {
-    made(rt, b"no items, 2 predicates, 3 columns", 0, 0, 2, 3)?;
-    made(rt, b"one leaf", 1, 0, 0, 0)?;
-    made(rt, b"two leaves", 2, 0, 0, 0)?;
-    made(rt, b"a join alone", 0, 1, 0, 0)?;
-    made(rt, b"one leaf and a join", 1, 1, 0, 0)?;
-    made(rt, b"two leaves and two joins", 2, 2, 0, 0)
+    made(rt, b"no items, 2 predicates, 3 columns", 0, 0, 2, 3, &[])?;
+    made(rt, b"one leaf", 1, 0, 0, 0, &[])?;
+    made(rt, b"two leaves", 2, 0, 0, 0, &[])?;
+    made(rt, b"a join alone", 0, 1, 0, 0, &[])?;
+    made(rt, b"one leaf and a join", 1, 1, 0, 0, &[])?;
+    made(rt, b"two leaves and two joins", 2, 2, 0, 0, &[])
 }

@@ -102,7 +102,7 @@ pub fn replaced(rt: &impl Print, name: &[u8], words: &[(usize, u32)]) -> io::Res
     draft.show(rt, name, 100)
 }
 
-// A uniform sheet.
+// A uniform sheet with words replaced.
 pub fn made(
     rt: &impl Print,
     name: &[u8],
@@ -110,22 +110,10 @@ pub fn made(
     joins: u16,
     predicates: u16,
     columns: u16,
+    words: &[(usize, u32)],
 ) -> io::Result<()> {
-    let draft = uniform(leaves, joins, predicates, columns);
-    draft.show(rt, name, draft.at)
-}
-
-// A uniform sheet of leaves and columns with one word replaced.
-pub fn remade(
-    rt: &impl Print,
-    name: &[u8],
-    leaves: u16,
-    columns: u16,
-    at: usize,
-    w: u32,
-) -> io::Result<()> {
-    let mut draft = uniform(leaves, 0, 0, columns);
+    let mut draft = uniform(leaves, joins, predicates, columns);
     let length = draft.at;
-    draft.replace(&[(at, w)]);
+    draft.replace(words);
     draft.show(rt, name, length)
 }

@@ -1,20 +1,17 @@
 -- An item and its table by what is read, and what an answer says. Assumes nothing.
-use Rattle.std.specs.Prelude.{ℕ, ◌<◌, List, ◌≡◌, eqb, Result, Ok, Err, IsErrAnd}
-use Rattle.std.proofs.Common.{inl, inr, sym, ap, ◌∙◌, arith}
+use Rattle.std.specs.Prelude.{ℕ, ◌+◌, ◌<◌, drop, List, [], ◌∷◌, ◌≡◌, eqb, Result, Ok, Err, IsErrAnd}
+use Rattle.std.proofs.Common.{add-one, drop-cons, inl, inr, sym, ap, ◌∙◌, arith}
 use Rattle.std.proofs.lemmas.Result.{err_from_is_err_and}
-use Rattle.definition.specs.Question.{Range, Item, leaf}
-use Rattle.definition.specs.Sheet.{question_of, table_length}
-use Rattle.definition.proofs.SheetLaws.{length_columns, length_predicates, true_or_false}
+use Rattle.definition.specs.Lists.{concat_map}
+use Rattle.definition.specs.Question.{Item, Predicate, predicate, leaf}
+use Rattle.definition.specs.Sheet.{question_of, predicate_count, table_length, Check, first_failing}
+use Rattle.definition.proofs.SheetLaws.{length_columns, length_predicates, true_or_false, Numbered, fails_first, fails_after}
 use Rattle.sheet.specs.Views.{Placed}
 use Rattle.sheet.specs.declared.Sections.{Sections}
 use Rattle.sheet_check.specs.Views.{number_of, answer_number, table_count}
 use Rattle.sheet_check.specs.declared.Fault.{Fault}
 use Rattle.sheet_check.specs.declared.Fault.TheVariants.{Truncated, OverLimit, Misplaced, UnknownKind, ReservedNotZero}
 use Rattle.sheet_check.specs.declared.Fault.TheVariants.{RangePastTable, SelectivityAboveOne, TooManyLeaves, BrokenWalk}
-
--- an item by its fields
-pub item_of : (x : Item) {k r : ℕ} {g : Range} → k ≡ x.kind → r ≡ x.rows → g ≡ x.range → record { kind = k; rows = r; range = g } ≡ x
-item_of x k r g = rw (k, r, g)
 
 -- the table of an item
 pub table_here : (bs : List ℕ) (s : Sections) → Placed bs s → (x : Item) → table_count s x.kind ≡ table_length (question_of bs) x
@@ -52,6 +49,29 @@ pub fault_exits : {A : Type 0} (r : Result A Fault) (f : Fault) {n m : ℕ} → 
 fault_exits r f e h k =
     let exit = err_from_is_err_and r e in
     rw (exit.1, exit.2) (h ∙ k (omega (arith, positive f)))
+
+-- checks of each member of a list: the first member fails, or the rest decide
+module _ {A : Type 0} (f : A → List Check) (numbered : (x : A) → Numbered (f x)) {ys zs : List A} {x : A} (e : ys ≡ x ∷ zs) where
+  member_fails : 0 < first_failing (f x) → first_failing (concat_map f ys) ≡ first_failing (f x)
+  unfolding concat_map
+  member_fails p = rw e (fails_first (f x) (concat_map f zs) p)
+
+  pub member_exits : {B : Type 0} (r : Result B Fault) (g : Fault) {m : ℕ} → IsErrAnd r (λ y. y ≡ g) → number_of g ≡ first_failing (f x)
+      → first_failing (concat_map f ys) ≡ m → answer_number r ≡ m
+  member_exits r g err h all = fault_exits r g err h (λ p. sym (member_fails p) ∙ all)
+
+  pub member_passes : 0 ≡ first_failing (f x) → {m : ℕ} → first_failing (concat_map f ys) ≡ m → first_failing (concat_map f zs) ≡ m
+  unfolding concat_map
+  member_passes h all = sym (rw e (fails_after (f x) (concat_map f zs) (numbered x) (sym h))) ∙ all
+
+pub none_fails : {A : Type 0} (f : A → List Check) {ys : List A} {m : ℕ} → ys ≡ [] → first_failing (concat_map f ys) ≡ m → 0 ≡ m
+unfolding concat_map first_failing
+none_fails f e all = sym (rw e) ∙ all
+
+-- a predicate, and those behind it
+pub predicates_on : (bs : List ℕ) (n : ℕ) {x : Predicate} → n < predicate_count bs → x ≡ predicate (question_of bs) n
+    → drop n (question_of bs).predicates ≡ x ∷ drop (n + 1) (question_of bs).predicates
+predicates_on bs n h e = rw (add-one, e) (drop-cons (question_of bs).predicates n _ (omega (arith, length_predicates bs)))
 
 -- an answer is of one kind, and an accepted one has one value
 pub never_accepted : {A : Type 0} {v : Result A Fault} {f : Fault} {s t : A} → v ≡ Err f → v ≡ Ok s → s ≡ t

@@ -1,14 +1,14 @@
 // The sheet check, in document 01's order: header; item by item; predicate by predicate; the walk.
 ghost use Rattle.std.specs.Prelude.{◌≡◌, ◌<◌, length, Result, Ok};
 ghost use Rattle.definition.specs.Lists.{concat_map};
-ghost use Rattle.definition.specs.Question.{item, predicate, fits};
+ghost use Rattle.definition.specs.Question.{fits};
 ghost use Rattle.definition.specs.Sheet.{question_of, first_failing, header_checks, item_checks, predicate_checks, walk_checks, reserved_is_set, sheet_answer};
-ghost use Rattle.sheet.specs.Views.{range_of, sections_of};
+ghost use Rattle.sheet.specs.Views.{range_of, item_of, predicate_of, sections_of};
 ghost use Rattle.sheet_check.specs.Views.{answer_number, table_count};
 
 use crate::Fault;
-use nodeset::PredicateId;
-use sheet::{Range, Sections, Sheet};
+use nodeset::{CROSS_PRODUCT, LEAF, PredicateId};
+use sheet::{Item, Predicate, Range, Sections, Sheet};
 
 // Length, counts, offsets.
 fn check_header(sheet: &[u8]) -> Result<(), Fault>
@@ -50,30 +50,24 @@ fn fits(r: Range, table: usize) -> bool
 }
 
 // A word that should be 0 isn't.
-// kept: a kind is a number: a sheet may hold any until it is checked, and the lent lists hold it as one.
-fn reserved_is_set(kind: u32, rows: u64, r: Range) -> bool
-    ensures { result ≡ reserved_is_set (record { kind = kind; rows = rows; range = range_of r }) }
+fn reserved_is_set(item: Item) -> bool
+    ensures { result ≡ reserved_is_set (item_of item) }
 {
-    kind != 9 && rows != 0 || kind == 8 && (r.first != 0 || r.count != 0)
+    item.kind != LEAF && item.rows != 0
+        || item.kind == CROSS_PRODUCT && (item.range.first != 0 || item.range.count != 0)
 }
 
 // An item's kind, the words that should be 0, and its range.
-// kept: a kind is a number: a sheet may hold any until it is checked, and the lent lists hold it as one.
-fn check_item(sheet: &Sheet<'_>, i: usize) -> Result<(), Fault>
-    requires { i < sheet.now.sections.items.count }
-    ensures { answer_number result ≡ first_failing (item_checks (question_of sheet.now.bytes.now) (item (question_of sheet.now.bytes.now) i)) }
+fn check_item(sheet: &Sheet<'_>, item: Item) -> Result<(), Fault>
+    ensures { answer_number result ≡ first_failing (item_checks (question_of sheet.now.bytes.now) (item_of item)) }
 {
-    let kind = sheet.item_kind(i);
-    if 9 < kind {
+    if LEAF < item.kind {
         return Err(Fault::UnknownKind);
     }
-    let rows = sheet.item_rows(i);
-    let r = sheet.item_range(i);
-    if reserved_is_set(kind, rows, r) {
+    if reserved_is_set(item) {
         return Err(Fault::ReservedNotZero);
     }
-    let table = table_count(sheet.sections, kind);
-    if fits(r, table) {
+    if fits(item.range, table_count(sheet.sections, item.kind)) {
         Ok(())
     } else {
         Err(Fault::RangePastTable)
@@ -81,36 +75,34 @@ fn check_item(sheet: &Sheet<'_>, i: usize) -> Result<(), Fault>
 }
 
 // A leaf's range is one of columns, a join's one of predicates.
-// kept: a kind is a number: a sheet may hold any until it is checked, and the lent lists hold it as one.
+// kept: a kind is a number, as said at Item.
 fn table_count(s: Sections, kind: u32) -> usize
     ensures { result ≡ table_count s kind }
 {
-    if kind == 9 {
+    if kind == LEAF {
         s.columns.count
     } else {
         s.predicates.count
     }
 }
 
-// kept: beside check_predicates, since items and predicates are numbered by different types and have different checks.
+// kept: beside check_predicates, since items and predicates are of different types and have different checks.
 fn check_items(sheet: &Sheet<'_>) -> Result<(), Fault>
     ensures { answer_number result ≡ first_failing (concat_map (item_checks (question_of sheet.now.bytes.now)) (question_of sheet.now.bytes.now).items) }
 {
-    for i in 0..sheet.sections.items.count {
-        check_item(sheet, i)?;
+    for item in sheet.items() {
+        check_item(sheet, item)?;
     }
     Ok(())
 }
 
-fn check_predicate(sheet: &Sheet<'_>, p: PredicateId) -> Result<(), Fault>
-    requires { p.0 < sheet.now.sections.predicates.count }
-    ensures { answer_number result ≡ first_failing (predicate_checks (question_of sheet.now.bytes.now) (predicate (question_of sheet.now.bytes.now) p.0)) }
+fn check_predicate(sheet: &Sheet<'_>, predicate: Predicate) -> Result<(), Fault>
+    ensures { answer_number result ≡ first_failing (predicate_checks (question_of sheet.now.bytes.now) (predicate_of predicate)) }
 {
-    if 65536 < sheet.predicate_selectivity(p) {
+    if 65536 < predicate.selectivity {
         return Err(Fault::SelectivityAboveOne);
     }
-    let r = sheet.predicate_range(p);
-    if fits(r, sheet.sections.columns.count) {
+    if fits(predicate.range, sheet.sections.columns.count) {
         Ok(())
     } else {
         Err(Fault::RangePastTable)
@@ -123,7 +115,7 @@ fn check_predicates(sheet: &Sheet<'_>) -> Result<(), Fault>
         ≡ first_failing (concat_map (predicate_checks (question_of sheet.now.bytes.now)) (question_of sheet.now.bytes.now).predicates) }
 {
     for p in 0..sheet.sections.predicates.count as u32 {
-        check_predicate(sheet, PredicateId(p))?;
+        check_predicate(sheet, sheet.predicate(PredicateId(p)))?;
     }
     Ok(())
 }

@@ -25,7 +25,7 @@ pub enum Fault {
 
 impl Fault {
     // Document 01's number for it.
-    // kept: a function of its own, whose contract says which number each fault has; a cast says that of no contract.
+    // kept: a method. `From` for u32 proves too, in as many lines, but `u32::from(fault)` wouldn't say that the number is document 01's.
     pub fn number(self) -> u32
         ensures { result ≡ number_of self }
     {
@@ -34,6 +34,7 @@ impl Fault {
 }
 
 // Document 01's number for the check's answer; 0 where the sheet is accepted.
+// kept: the answers are document 01's numbers, and 0 is an accepted sheet's.
 pub fn answer_number(answer: Result<Sections, Fault>) -> u32
     ensures { result ≡ answer_number answer }
 {

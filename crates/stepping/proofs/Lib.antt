@@ -1,3 +1,4 @@
 -- Laws of the loops.
+pub mod SetsLeft
 pub mod Stepping
 pub mod StandingLaws

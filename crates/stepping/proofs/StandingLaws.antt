@@ -5,10 +5,9 @@ use Rattle.std.proofs.lemmas.Bool.{eqb-false}
 use Rattle.nodeset.specs.Sets.{singleton, highest, difference, all_below}
 use Rattle.nodeset.specs.Subsets.{non_empty_subsets, singletons, next_subset}
 use Rattle.nodeset.specs.SubsetLaws.{Steps}
-use Rattle.nodeset.proofs.SubsetLaws.{subsets_steps}
+use Rattle.nodeset.proofs.SubsetLaws.{subsets_steps, next_last}
 use Rattle.nodeset.proofs.SingletonLaws.{singletons_step, rest_less, singletons_none}
 use Rattle.definition.specs.Walk.{each}
-use Rattle.stepping.proofs.Stepping.{At, at_next, far, far_up, far_zero}
 
 -- ---- what comes next in a loop of the search, with a stop number that is 0 until it has stopped: 0, its end, also where it has
 
@@ -56,6 +55,32 @@ count_le j stop = go (eqb stop 0) refl
     go false q = omega (arith, count_stop j stop (eqb-false _ _ q))
 
 -- ---- the subsets
+
+-- at t, with these subsets yet to come, t the first of them; 0 when there are none
+abbrev pub At : ℕ → ℕ → List ℕ → Type 0
+At s t [] = t ≡ 0
+At s t (u ∷ r) = (u ≡ t) × (0 < t) × (t ≤ s) × Steps s t r
+
+pub at_next : (s t : ℕ) (r : List ℕ) → s < 2 ^ 64 → Steps s t r → At s (next_subset s t) r
+at_next s t [] h p = ap (next_subset s) p ∙ next_last s h
+at_next s t (v ∷ r) h p =
+    (sym p.2, omega (arith, p.0, p.2), omega (arith, p.1, p.2), subst (λ (x : ℕ). Steps s x r) (sym p.2) p.3)
+
+-- how far the loop has to go: 0 at the end
+pub far : ℕ → ℕ → ℕ
+far s zero = 0
+far s (suc t) = suc (s - suc t)
+
+pub far_up : (s t v : ℕ) → (v ≡ 0 → ⊥) → t < v → v ≤ s → (t ≡ 0 → ⊥) → far s v < far s t
+unfolding far
+far_up s zero v f l h g = absurd (g refl)
+far_up s (suc t) zero f l h g = absurd (f refl)
+far_up s (suc t) (suc v) f l h g = omega arith
+
+pub far_zero : (s t v : ℕ) → v ≡ 0 → (t ≡ 0 → ⊥) → far s v < far s t
+unfolding far
+far_zero s zero v e g = absurd (g refl)
+far_zero s (suc t) v e g = rw e (omega arith)
 
 module _ {S : Type 0} (stop : S → ℕ) where
   -- f over the subsets that are left, from here, gives the whole

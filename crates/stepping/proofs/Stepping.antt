@@ -1,33 +1,43 @@
--- The search's three loops, over any state that, once it has stopped, nothing changes: over the subsets of a set, over its leaves from the
--- highest down, and over the leaves of the question. Each loop is left early when stopped. The invariant says what is left to do from here.
--- Assumes nothing.
-use Rattle.std.specs.Prelude.{◌≡◌, refl, ℕ, zero, suc, ◌-◌, ◌^◌, ◌<◌, ◌≤◌, Bool, true, false, List, [], ◌∷◌}
-use Rattle.std.proofs.Common.{sym, ap, ◌∙◌, subst, arith}
-use Rattle.nodeset.specs.Sets.{singleton, highest, difference, all_below}
-use Rattle.nodeset.specs.Subsets.{non_empty_subsets, singletons, next_subset}
-use Rattle.nodeset.specs.SubsetLaws.{Steps}
-use Rattle.nodeset.proofs.SubsetLaws.{subsets_steps, next_last}
-use Rattle.nodeset.proofs.SingletonLaws.{singletons_step, rest_less, singletons_none}
+-- The search's loops, over any state that, once it has stopped, nothing changes: over the sets that an iterator has left, and over the leaves of
+-- the question. Each loop is left early when stopped. The invariant says what is left to do from here. Assumes nothing.
+use Rattle.std.specs.Prelude.{◌≡◌, refl, ℕ, zero, suc, ◌-◌, ◌≤◌, Bool, true, false, List, [], ◌∷◌}
+use Rattle.std.proofs.Common.{sym, ap, ◌∙◌, arith}
+use Rattle.nodeset.specs.Sets.{singleton, all_below}
 use Rattle.definition.specs.Walk.{each}
-use Rattle.stepping.specs.Next.{subset_after, leaves_after, count_after}
+use Rattle.stepping.specs.Next.{count_after}
 
--- ---- what comes next
+module _ {S : Type 0} (stop : S → Bool) where
+  abbrev pub Frozen : (S → S) → Type 0
+  Frozen f = (st : S) → stop st ≡ true → f st ≡ st
 
-pub subset_go : (s t : ℕ) (stop : Bool) → stop ≡ false → next_subset s t ≡ subset_after s t stop
-unfolding subset_after
-subset_go s t stop h = rw h
+  pub each_frozen : (f : ℕ → S → S) → ((t : ℕ) → Frozen (f t)) → (ts : List ℕ) → Frozen (each f ts)
+  each_frozen f z [] st h = refl
+  each_frozen f z (t ∷ ts) st h = ap (each f ts) (z t st h) ∙ each_frozen f z ts st h
 
-pub subset_stop : (s t : ℕ) (stop : Bool) → stop ≡ true → 0 ≡ subset_after s t stop
-unfolding subset_after
-subset_stop s t stop h = rw h
+-- ---- a loop over a list of sets
 
-pub leaves_go : (s v : ℕ) (stop : Bool) → stop ≡ false → difference s v ≡ leaves_after s v stop
-unfolding leaves_after
-leaves_go s v stop h = rw h
+-- f, which changes nothing once it is stopped, over the sets ts that are left, gives the whole from the state st
+pub record Loop {S : Type 0} (stop : S → Bool) (f : ℕ → S → S) (whole : S) (ts : List ℕ) (st : S) : Type 0 where
+  pub frozen : (t : ℕ) → Frozen stop (f t)
+  pub does : each f ts st ≡ whole
 
-pub leaves_stop : (s v : ℕ) (stop : Bool) → stop ≡ true → 0 ≡ leaves_after s v stop
-unfolding leaves_after
-leaves_stop s v stop h = rw h
+module _ {S : Type 0} {stop : S → Bool} {f : ℕ → S → S} where
+  -- all: what the iterator begins with
+  pub loop_start : ((t : ℕ) → Frozen stop (f t)) → {ts all : List ℕ} {st whole : S} → ts ≡ all → each f all st ≡ whole → Loop stop f whole ts st
+  loop_start z {ts} {all} {st} e w = record { frozen = z; does = ap (λ l. each f l st) e ∙ w }
+
+  module _ {whole : S} {ts : List ℕ} {st : S} (l : Loop stop f whole ts st) where
+    -- t is taken off the list, and u is the state after it
+    pub loop_next : {t : ℕ} {more : List ℕ} {u : S} → ts ≡ t ∷ more → u ≡ f t st → Loop stop f whole more u
+    loop_next {t} {more} e d = record { frozen = l.frozen; does = ap (each f more) d ∙ ap (λ r. each f r st) (sym e) ∙ l.does }
+
+    pub loop_end : ts ≡ [] → st ≡ whole
+    loop_end e = ap (λ r. each f r st) (sym e) ∙ l.does
+
+    pub loop_stopped : true ≡ stop st → st ≡ whole
+    loop_stopped e = sym (each_frozen stop f l.frozen ts st (sym e)) ∙ l.does
+
+-- ---- the leaves of the question: `from k` does the first k
 
 pub count_go : (j : ℕ) (stop : Bool) → stop ≡ false → j ≡ count_after j stop
 unfolding count_after
@@ -41,125 +51,6 @@ pub count_le : (j : ℕ) (stop : Bool) → count_after j stop ≤ j
 unfolding count_after
 count_le j true = omega arith
 count_le j false = omega arith
-
--- ---- the subsets
-
--- at t, with these subsets yet to come, t the first of them; 0 when there are none
-abbrev pub At : ℕ → ℕ → List ℕ → Type 0
-At s t [] = t ≡ 0
-At s t (u ∷ r) = (u ≡ t) × (0 < t) × (t ≤ s) × Steps s t r
-
-pub at_next : (s t : ℕ) (r : List ℕ) → s < 2 ^ 64 → Steps s t r → At s (next_subset s t) r
-at_next s t [] h p = ap (next_subset s) p ∙ next_last s h
-at_next s t (v ∷ r) h p =
-    (sym p.2, omega (arith, p.0, p.2), omega (arith, p.1, p.2), subst (λ (x : ℕ). Steps s x r) (sym p.2) p.3)
-
--- how far the loop has to go: 0 at the end
-pub far : ℕ → ℕ → ℕ
-far s zero = 0
-far s (suc t) = suc (s - suc t)
-
-pub far_up : (s t v : ℕ) → (v ≡ 0 → ⊥) → t < v → v ≤ s → (t ≡ 0 → ⊥) → far s v < far s t
-unfolding far
-far_up s zero v f l h g = absurd (g refl)
-far_up s (suc t) zero f l h g = absurd (f refl)
-far_up s (suc t) (suc v) f l h g = omega arith
-
-pub far_zero : (s t v : ℕ) → v ≡ 0 → (t ≡ 0 → ⊥) → far s v < far s t
-unfolding far
-far_zero s zero v e g = absurd (g refl)
-far_zero s (suc t) v e g = rw e (omega arith)
-
-module _ {S : Type 0} (stop : S → Bool) where
-  -- f over the subsets that are left, from here, gives the whole
-  pub record Passing (f : ℕ → S → S) (s : ℕ) (whole : S) (t : ℕ) (st : S) : Type 0 where
-    pub rest : List ℕ
-    pub place : At s t rest
-    pub does : each f rest st ≡ whole
-
-  abbrev pub Frozen : (S → S) → Type 0
-  Frozen f = (st : S) → stop st ≡ true → f st ≡ st
-
-  pub each_frozen : (f : ℕ → S → S) → ((t : ℕ) → Frozen (f t)) → (ts : List ℕ) → Frozen (each f ts)
-  each_frozen f z [] st h = refl
-  each_frozen f z (t ∷ ts) st h = ap (each f ts) (z t st h) ∙ each_frozen f z ts st h
-
-  module _ (f : ℕ → S → S) (frozen : (t : ℕ) → Frozen (f t)) (s : ℕ) (hs : s < 2 ^ 64) where
-    resume : (whole : S) (t : ℕ) (r : List ℕ) (st : S) → Steps s t r → each f r st ≡ whole → Passing f s whole (subset_after s t (stop st)) st
-    resume whole t r st p w = go (stop st) refl
-      where
-        go : (b : Bool) → stop st ≡ b → Passing f s whole (subset_after s t (stop st)) st
-        go false e = rw (← subset_go s t (stop st) e) record { rest = r; place = at_next s t r hs p; does = w }
-        go true e =
-            rw (← subset_stop s t (stop st) e)
-            record { rest = []; place = refl; does = sym (each_frozen f frozen r st e) ∙ w }
-
-    pub passing_start : (st : S) (t : ℕ) → t ≡ subset_after s 0 (stop st) → Passing f s (each f (non_empty_subsets s) st) t st
-    passing_start st t e = rw e (resume (each f (non_empty_subsets s) st) 0 (non_empty_subsets s) st (subsets_steps s hs) refl)
-
-    pub passing_next : {whole : S} {t : ℕ} {st : S} (u : S) (t' : ℕ) → Passing f s whole t st → (t ≡ 0 → ⊥) → u ≡ f t st
-        → t' ≡ subset_after s t (stop u) → Passing f s whole t' u
-    passing_next {whole} {t} {st} u t' p h e d = go p.rest p.place p.does
-      where
-        go : (r : List ℕ) → At s t r → each f r st ≡ whole → Passing f s whole t' u
-        go [] a w = absurd (h a)
-        go (x ∷ r) a w = rw d (resume whole t r u a.3 (ap (each f r) (e ∙ ap (λ (y : ℕ). f y st) (sym a.0)) ∙ w))
-
-    pub passing_less : {whole : S} {t : ℕ} {st : S} (z : Bool) (t' : ℕ) → Passing f s whole t st → (t ≡ 0 → ⊥) → t' ≡ subset_after s t z → far s t' < far s t
-    passing_less {whole} {t} {st} z t' p h d = rw d (go p.rest p.place z refl)
-      where
-        next_far : (r : List ℕ) → At s (next_subset s t) r → Steps s t r → far s (next_subset s t) < far s t
-        next_far [] a q = far_zero s t (next_subset s t) a h
-        next_far (y ∷ r) a q =
-            let up : t < next_subset s t = omega (arith, q.0, q.2) in
-            far_up s t (next_subset s t) (λ k. omega (arith, a.1)) up a.2 h
-
-        go : (r : List ℕ) → At s t r → (b : Bool) → z ≡ b → far s (subset_after s t z) < far s t
-        go [] a b e = absurd (h a)
-        go (x ∷ r) a false e = rw (← subset_go s t z e) (next_far r (at_next s t r hs a.3) a.3)
-        go (x ∷ r) a true e = rw (← subset_stop s t z e) (far_zero s t 0 refl h)
-
-  pub passing_end : {f : ℕ → S → S} {s : ℕ} {whole : S} {t : ℕ} {st : S} → Passing f s whole t st → t ≡ 0 → st ≡ whole
-  passing_end {f} {s} {whole} {t} {st} p h = go p.rest p.place p.does
-    where
-      go : (r : List ℕ) → At s t r → each f r st ≡ whole → st ≡ whole
-      go [] a w = w
-      go (x ∷ r) a w = absurd (omega (arith, a.1))
-
--- ---- the leaves of a set, from the highest down
-
-pub leaves_less : (v b : ℕ) (stop : Bool) → 0 < v → v < 2 ^ 64 → b ≡ singleton (highest v) → leaves_after v b stop < v
-leaves_less v b stop p h e = go stop refl
-  where
-    go : (t : Bool) → stop ≡ t → leaves_after v b stop < v
-    go false q = subst (λ (x : ℕ). x < v) (leaves_go v b stop q) (subst (λ (x : ℕ). difference v x < v) (sym e) (rest_less v p h))
-    go true q = subst (λ (x : ℕ). x < v) (leaves_stop v b stop q) p
-
-module _ {S : Type 0} (stop : S → Bool) (f : ℕ → S → S) (frozen : (t : ℕ) → Frozen stop (f t)) where
-  pub falling_next : {whole st : S} (u : S) {v : ℕ} (b v' : ℕ) → each f (singletons v) st ≡ whole → 0 < v → v < 2 ^ 64 → b ≡ singleton (highest v)
-      → u ≡ f b st → v' ≡ leaves_after v b (stop u) → each f (singletons v') u ≡ whole
-  falling_next {whole} {st} u {v} b v' w p h eb eu ev = ap (λ (x : ℕ). each f (singletons x) u) ev ∙ go (stop u) refl
-    where
-      rest : each f (singletons (difference v b)) u ≡ whole
-      rest =
-          ap (each f (singletons (difference v b))) eu
-          ∙ ap (λ (x : ℕ). each f (singletons (difference v x)) (f x st)) eb
-          ∙ ap (λ (l : List ℕ). each f l st) (sym (singletons_step v p h))
-          ∙ w
-
-      go : (t : Bool) → stop u ≡ t → each f (singletons (leaves_after v b (stop u))) u ≡ whole
-      go false q = ap (λ (x : ℕ). each f (singletons x) u) (sym (leaves_go v b (stop u) q)) ∙ rest
-      go true q =
-          ap (λ (x : ℕ). each f (singletons x) u) (sym (leaves_stop v b (stop u) q))
-          ∙ ap (λ (l : List ℕ). each f l u) singletons_none
-          ∙ sym (each_frozen stop f frozen (singletons (difference v b)) u q)
-          ∙ rest
-
-  pub falling_end : {whole st : S} {v : ℕ} → each f (singletons v) st ≡ whole → v ≡ 0 → st ≡ whole
-  falling_end {whole} {st} {v} w e =
-      sym (ap (λ (l : List ℕ). each f l st) singletons_none) ∙ ap (λ (x : ℕ). each f (singletons x) st) (sym e) ∙ w
-
--- ---- the leaves of the question: `from k` does the first k
 
 module _ {S : Type 0} (stop : S → Bool) (leaf : ℕ → ℕ → S → S) (from : ℕ → S → S) (frozen : (k : ℕ) → Frozen stop (from k))
     (from_zero : (st : S) → from 0 st ≡ st)

@@ -1,8 +1,10 @@
 -- Laws of the crate's definitions, one for each way through a function. Assumes nothing.
-use Rattle.std.specs.Prelude.{◌≡◌, refl, Bool, List, [], ◌∷◌, get_or, take, drop, ltb, None, Some, is_some}
+use Rattle.std.specs.Prelude.{◌≡◌, refl, Bool, List, [], ◌∷◌, get_or, take, drop, ltb, None, Some, is_some, cond}
+use Rattle.std.specs.List.{position, position_or_len}
+use Rattle.std.specs.Option.{option_map}
 use Rattle.std.proofs.Math.Path.{sym, ap, ap₂}
-use Rattle.std.proofs.Common.{◌∙◌, le_of_lt, zero-add, suc-add, drop_of_length-le, drop-cons, get_or-take, take_all}
-use Rattle.std.proofs.Math.Bool.{true, false, ◌||◌, or-false, or_assoc}
+use Rattle.std.proofs.Common.{◌∙◌, le_of_lt, zero-add, suc-add, drop-cons, get_or-take, take_all}
+use Rattle.std.proofs.Math.Bool.{true, false, not, ◌||◌, or-false, or_assoc}
 use Rattle.std.proofs.lemmas.Bool.{false≢true}
 use Prim.Native.Nat.{ℕ, zero, suc, ◌+◌, ◌<◌, ◌≤◌, min}
 use Rattle.std.proofs.Math.Nat.{min-le_left, min-eq_left, min-eq_right, add-zero}
@@ -11,7 +13,7 @@ use native.Mathlib.Omega.{arith}
 use Rattle.std.proofs.Math.ListN.{length, length-take}
 use Rattle.std.proofs.Math.Seq.{take-length}
 use Rattle.std.proofs.Math.Dec.{eqb}
-use borrow.Author.Tests.{eq-eqb, ne_eqb, lt-ltb, le-ltb, eqb-false, ltb-true, ltb-false}
+use borrow.Author.Tests.{ne_eqb, lt-ltb, le-ltb, eqb-false, ltb-true, ltb-false}
 use Rattle.store.specs.declared.DPhyp.{DPhyp}
 use Rattle.store.specs.declared.Stop.TheVariants.{VisitsSpent}
 use Rattle.store.specs.Counts.{counts, visit_of}
@@ -25,23 +27,31 @@ get_d_any (x ∷ l) (suc i) d e h = get_d_any l i d e (omega arith)
 -- ---- the memo, one entry more
 
 module _ (l : List ℕ) (n i s : ℕ) where
-  front : i < min n (length l) → drop i (take n l) ≡ get_or l i 0 ∷ drop (suc i) (take n l)
+  pub front : i < min n (length l) → drop i (take n l) ≡ get_or l i 0 ∷ drop (suc i) (take n l)
   front h =
       let k : i < length (take n l) = omega (arith, length-take n l) in
       let m = min-le_left n (length l) in
       drop-cons (take n l) i 0 k ∙ ap (λ (x : ℕ). x ∷ drop (suc i) (take n l)) (get_or-take n l i 0 (omega arith))
 
-  pub spot_here : i < min n (length l) → get_or l i 0 ≡ s → Some i ≡ spot i (drop i (take n l)) s
-  unfolding spot
-  spot_here h e = rw (front h, eq-eqb (get_or l i 0) s e, spot)
-
   pub spot_on : i < min n (length l) → (get_or l i 0 ≡ s → ⊥) → spot (i + 1) (drop (i + 1) (take n l)) s ≡ spot i (drop i (take n l)) s
   unfolding spot
   spot_on h e = sym (rw (front h, ne_eqb (get_or l i 0) s e, spot, add-one))
 
-  pub spot_end : min n (length l) ≤ i → None ≡ spot i (drop i (take n l)) s
-  unfolding spot
-  spot_end h = let k : length (take n l) ≤ i = omega (arith, length-take n l) in rw (drop_of_length-le (take n l) k)
+-- the number of the first place with s, counted from the list's first
+pub spot-position : (l : List ℕ) (s i : ℕ) → option_map (λ k. i + k) (position (λ x. eqb x s) l) ≡ spot i l s
+unfolding spot
+spot-position [] s i = refl
+spot-position (x ∷ l) s i = go (eqb x s) (ltb (position_or_len (λ x. eqb x s) l) (length l)) refl (spot-position l s (suc i))
+  where
+    p : ℕ
+    p = position_or_len (λ x. eqb x s) l
+
+    go : (b q : Bool) → ltb p (length l) ≡ q → option_map (λ k. suc i + k) (cond q (Some p) None) ≡ spot (suc i) l s
+        → option_map (λ k. i + k) (cond (ltb (cond (not b) (1 + p) 0) (suc (length l))) (Some (cond (not b) (1 + p) 0)) None)
+        ≡ elim b [ true ↦ Some i | false ↦ spot (suc i) l s ]
+    go true q e h = rw (lt-ltb 0 (suc (length l)) (omega arith)) (ap Some (add-zero i))
+    go false true e h = rw (lt-ltb (1 + p) (suc (length l)) (omega (arith, ltb-true _ _ e))) (ap Some (omega arith) ∙ h)
+    go false false e h = rw (le-ltb (1 + p) (suc (length l)) (omega (arith, ltb-false _ _ e))) h
 
 -- ---- a set among some places
 

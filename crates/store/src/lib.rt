@@ -18,7 +18,7 @@ pub use sets::find;
 
 // Why the search stopped before its end: a plan was due and the plan store was full, a set was new and the memo was full, or the next
 // visit would pass the limit. The numbers are the answers' own.
-#[derive(Clone, Copy)]
+#[derive(Clone, Copy, Debug, PartialEq, Eq)]
 pub enum Stop {
     PlansFull = 12,
     MemoFull = 13,
@@ -27,7 +27,7 @@ pub enum Stop {
 
 impl Stop {
     // The answer's number for it.
-    // kept: a method, whose contract ties the cast to the definition's number.
+    // kept: a method; `u32::from(stop)` would not say that the number is document 01's.
     pub fn number(self) -> u32
         ensures { result ≡ number_of self }
     {

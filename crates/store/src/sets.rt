@@ -12,18 +12,16 @@ fn four_has(mset: &[u64], i: usize, s: u64) -> bool
 }
 
 // Passes over eight places at a time: answers where the first four with s begin, or the rest of fewer than eight.
-// kept: one place at a time takes twice the instructions (docs/DECISIONS.md).
-#[tactic(auto, using(crate::specs::Laws::spot_past))]
-fn skip_eights(mset: &[u64], count: usize, s: u64) -> usize
-    requires { count ≤ length mset.now }
-    ensures { (result ≤ count) × (spot result (drop result (take count mset.now)) s ≡ spot 0 (take count mset.now) s) }
+// kept: one place at a time takes twice the instructions (docs/DECISIONS.md); the place is counted, since it is what is answered.
+fn skip_eights(mset: &[u64], s: u64) -> usize
+    ensures { (result ≤ length mset.now) × (spot result (drop result mset.now) s ≡ spot 0 mset.now s) }
 {
     let mut i: usize = 0;
-    while count - i >= 8 {
-        if four_has(mset, i, s) {
+    for eight in mset.chunks_exact(8) {
+        if four_has(eight, 0, s) {
             return i;
         }
-        if four_has(mset, i + 4, s) {
+        if four_has(eight, 4, s) {
             return i + 4;
         }
         i += 8;
@@ -33,15 +31,13 @@ fn skip_eights(mset: &[u64], count: usize, s: u64) -> usize
 
 // Where s stands among the first n places.
 // kept: n may pass the list's end, so each caller would have to cut the list first.
-#[tactic(auto, using(crate::specs::Laws::spot_here, crate::specs::Laws::spot_on, crate::specs::Laws::spot_end))]
 pub fn find(mset: &[u64], n: u32, s: u64) -> Option<u32>
     ensures { result ≡ spot 0 (take n mset.now) s }
 {
-    let count = mset.len().min(n as usize);
-    for i in skip_eights(mset, count, s)..count {
-        if mset[i] == s {
-            return Some(i as u32);
-        }
-    }
-    None
+    let front = &mset[..mset.len().min(n as usize)];
+    let from = skip_eights(front, s);
+    front[from..]
+        .iter()
+        .position(|x| *x == s)
+        .map(|i| (from + i) as u32)
 }

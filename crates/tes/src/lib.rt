@@ -10,7 +10,7 @@ use connectivity::EdgeSides;
 // An earlier join: its type, the leaves of its two sides, and its record sets.
 #[derive(Clone, Copy, Default)]
 pub struct JoinRecord {
-    // kept: any number is a type here, and one that is no type allows nothing.
+    // kept: any number was taken as a type, and one that is no type has an answer, that nothing is allowed: an enum would ask more of callers.
     pub join_type: u32,
     pub left_nodes: u64,
     pub right_nodes: u64,
@@ -28,7 +28,7 @@ pub struct Sides {
 // A join that is built: its type and its whole sides.
 #[derive(Clone, Copy)]
 pub struct NewJoin {
-    // kept: any number is a type here, and one that is no type allows nothing.
+    // kept: a number, as JoinRecord's.
     pub join_type: u32,
     pub whole: Sides,
 }
@@ -76,6 +76,7 @@ impl JoinRecord {
 
     // The set s of our side that this join lies in, as its left side sees it. t: our type; across: our other side; asscom: what the table says
     // that is asked beside assoc.
+    // kept: t is a number, as JoinRecord's type.
     #[tactic(auto, using(crate::specs::TableLaws::said_assoc))]
     fn widened_side(self, edges: &EdgeSides<'_>, t: u32, asscom: bool, across: u64, s: u64) -> u64
         ensures { WidenedSide edges.now.left.now edges.now.right.now t asscom across self s result }

@@ -1,2 +1,3 @@
+pub mod PlanRoom
 pub mod PrintedLaws
 pub mod StandingLaws

@@ -1,5 +1,5 @@
 -- The text made from the lent lists is the tried list, and the open-list rule holds of it. Assumes nothing.
-use Rattle.std.specs.Prelude.{◌≡◌, ℕ, zero, suc, ◌+◌, ◌-◌, ◌*◌, ◌^◌, ◌≤◌, ◌<◌, length, replicate, drop, eqb, Float}
+use Rattle.std.specs.Prelude.{◌≡◌, ℕ, zero, suc, ◌+◌, ◌-◌, ◌*◌, ◌^◌, ◌≤◌, ◌<◌, length, drop, eqb, Float}
 use Rattle.std.proofs.Math.Path.{refl}
 use Rattle.std.proofs.Common.{sym, ap, ap₂, ◌∙◌, zero-le, drop_of_length-le}
 use mathlib.Core.List.{List, [], map}
@@ -21,8 +21,11 @@ use Rattle.listing.specs.TextLaws.{head_bound, lines_bound, text_length}
 use Rattle.listing.specs.ReadBack.{pairs_read}
 use Rattle.answer.specs.declared.Report.{Report}
 use Rattle.answer.specs.Answers.{reported}
-use Rattle.run.specs.RunLaws.{long}
-use Rattle.run.specs.Lent.{Lent, lent, rooms_in, holds}
+use Rattle.builder.specs.Builds.{EdgeLists}
+use Rattle.candidate.specs.Store.{Lists}
+use Rattle.run.specs.Lent.{Lent, rooms_in, holds}
+use Rattle.planner.specs.Stores.{edges_filled, lists_filled}
+use Rattle.tried_text.proofs.PlanRoom.{call_few}
 use Rattle.checks.specs.RoomLaws.{not_refused}
 use Rattle.tried_text.specs.Printed.{list_rooms, list_call, printed, longest_text, OpenText, leaves_passed, no_sets, side_of, text_from}
 
@@ -116,31 +119,33 @@ text_bound r n pset pleft pright a few v =
     )
 
 -- the lists that the call is lent
-abbrev pub fresh : Float → Lent
-fresh z =
-    lent (replicate 256 0) (replicate 256 0) (replicate 256 0) (replicate 256 0) (replicate 256 0)
-    no_sets no_sets no_sets no_sets no_sets (replicate 1088 z) (replicate 1088 z) (replicate 512 0) (replicate 512 0)
+abbrev fresh : Float → Lent
+fresh z = record { edges = edges_filled 256 0 0; plans = lists_filled 1088 512 0 0 z }
+
+pub fresh_lent : {e : EdgeLists} {l : Lists} {z : Float} → e ≡ edges_filled 256 0 0 → l ≡ lists_filled 1088 512 0 0 z
+    → ◌≡◌ {A = Lent} (record { edges = e; plans = l }) (fresh z)
+fresh_lent p q = ap₂ (λ (x : EdgeLists) (y : Lists). record { edges = x; plans = y }) p q
 
 fresh-rooms : (z : Float) → rooms_in (fresh z) ≡ list_rooms
 unfolding store_length
 fresh-rooms z = refl
 
--- from what the call answers, r, and leaves in the lists, l
-module _ (bs : List ℕ) (bytes : Bytes bs) (z : Float) (l : Lent) {r : Report} (answer : r ≡ reported (call bs (rooms_in (fresh z)) default_limit))
-    (lists : l ≡ holds (call bs (rooms_in (fresh z)) default_limit) (fresh z)) (size : length l.plans.pset ≡ 1088) where
-  same_call : call bs (rooms_in (fresh z)) default_limit ≡ list_call bs
-  same_call = ap (λ (rooms : Rooms). call bs rooms default_limit) (fresh-rooms z)
+-- from the lists lent, h, what the call answers, r, and leaves in the lists, l
+module _ (bs : List ℕ) (bytes : Bytes bs) {z : Float} (h l : Lent) (lent : h ≡ fresh z) {r : Report}
+    (answer : r ≡ reported (call bs (rooms_in h) default_limit)) (lists : l ≡ holds (call bs (rooms_in h) default_limit) h) where
+  same_call : call bs (rooms_in h) default_limit ≡ list_call bs
+  same_call = ap (λ (rooms : Rooms). call bs rooms default_limit) (ap rooms_in lent ∙ fresh-rooms z)
 
   few_plans : length (list_call bs).plans ≤ 1088
-  few_plans =
-      let same : l.plans.pset ≡ column (λ (p : Plan). p.set) (list_call bs).plans no_sets =
-      ap (λ (x : Lent). x.plans.pset) (lists ∙ ap (λ (o : Outcome). holds o (fresh z)) same_call) in
-      omega (arith, size, ap (λ (x : List ℕ). length x) same, long (λ (p : Plan). p.set) (list_call bs).plans no_sets)
+  few_plans = call_few bs bytes list_rooms default_limit
+
+  left : l ≡ holds (list_call bs) (fresh z)
+  left = lists ∙ ap₂ (λ (o : Outcome) (x : Lent). holds o x) same_call lent
 
   pub text_is : {n : ℕ} → n ≡ leaves_passed bs → text_from r n l.plans.pset l.plans.pleft l.plans.pright ≡ printed bs
   unfolding text_from printed
   text_is f =
-      rw (f, answer, lists, same_call)
+      rw (f, answer, left, same_call)
       (ap (tried_list (list_call bs).answer (list_call bs).visits) (pairs-printed bs bytes no_sets no_sets no_sets few_plans))
 
   pub text_fits : {n : ℕ} → n ≡ leaves_passed bs

@@ -7,6 +7,7 @@ ghost use Rattle.tried_text.specs.Printed.{printed, longest_text, OpenText, Kept
 
 use answer::Report;
 use builder::EdgeLists;
+use planner::{EdgeArrays, ListArrays};
 use sheet::Sheet;
 use store::Lists;
 
@@ -25,7 +26,7 @@ fn leaves(sheet: &[u8]) -> u32
 }
 
 // The text from the plans' lists, of which the first n are leaves.
-// kept: one list of sets for each side, as side_sets and the text read them.
+// kept: an array for each side, as the plan store lends a list for each (pleft, pright), of which side_sets reads one.
 fn listed(report: Report, n: u32, lists: &Lists<'_>, out: &mut [u8]) -> Option<usize>
     ensures result { let l = lists.now in result ≡ answer_for (text_from report n l.pset.now l.pleft.now l.pright.now) out.old }
     ensures text { let l = lists.now in out.new ≡ written_in (text_from report n l.pset.now l.pleft.now l.pright.now) out.old }
@@ -40,8 +41,6 @@ fn listed(report: Report, n: u32, lists: &Lists<'_>, out: &mut [u8]) -> Option<u
 }
 
 // The tried list of a sheet, from a call with 256 edges, 1,088 plans, 512 memo places and no stated limit.
-// kept: the arrays stand in the frame that lends them: tried_text states what is printed, and nothing says what a struct's array holds once a
-// slice lent from it is back.
 pub fn tried_text(sheet: &[u8], out: &mut [u8]) -> Option<usize>
     ensures result { result ≡ answer_for (printed sheet.now) out.old }
     ensures text { out.new ≡ written_in (printed sheet.now) out.old }
@@ -49,38 +48,10 @@ pub fn tried_text(sheet: &[u8], out: &mut [u8]) -> Option<usize>
     ensures open { OpenText sheet.now }
     ensures kept { KeptBehind sheet.now }
 {
-    let mut eleft = [0u64; 256];
-    let mut eright = [0u64; 256];
-    let mut epredicate = [0u32; 256];
-    let mut esource = [0u32; 256];
-    let mut ekind = [0u32; 256];
-    let mut pset = [0u64; 1088];
-    let mut pleft = [0u32; 1088];
-    let mut pright = [0u32; 1088];
-    let mut plead = [0u32; 1088];
-    let mut pkind = [0u32; 1088];
-    let mut prows = [0.0f64; 1088];
-    let mut pcost = [0.0f64; 1088];
-    let mut mset = [0u64; 512];
-    let mut mplan = [0u32; 512];
-    let mut edges = EdgeLists {
-        left: &mut eleft,
-        right: &mut eright,
-        predicate: &mut epredicate,
-        source: &mut esource,
-        kind: &mut ekind,
-    };
-    let mut lists = Lists {
-        pset: &mut pset,
-        pleft: &mut pleft,
-        pright: &mut pright,
-        plead: &mut plead,
-        pkind: &mut pkind,
-        prows: &mut prows,
-        pcost: &mut pcost,
-        mset: &mut mset,
-        mplan: &mut mplan,
-    };
+    let mut edge_arrays = EdgeArrays::<256>::new(0, 0);
+    let mut list_arrays = ListArrays::<1088, 512>::new(0, 0, 0.0);
+    let mut edges = edge_arrays.lend();
+    let mut lists = list_arrays.lend();
     let report = Report::from(planner::plan_default(sheet, &mut edges, &mut lists));
     let n = leaves(sheet);
     listed(report, n, &lists, out)

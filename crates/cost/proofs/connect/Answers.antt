@@ -8,7 +8,6 @@ use Rattle.std.specs.Option.{option_or}
 use Rattle.definition.specs.Hypergraph.{connects}
 use Rattle.definition.specs.Connection.{Connection}
 use Rattle.definition.specs.EdgeView.{edge_at}
-use Rattle.definition.specs.EdgeWalkLaws.{with_edge}
 use Rattle.definition.proofs.EdgeWalkLaws.{from, from-edge, from_other}
 use Rattle.cost.specs.View.{connection_of}
 use Rattle.cost.specs.declared.Connection as declared
@@ -36,6 +35,7 @@ loop-i-preserved c =
     let rest = from n e.left.now e.right.now e.predicate.now a.selectivities.now a.a a.b in
     let edge = from-edge n e.left.now e.right.now e.predicate.now a.selectivities.now a.a a.b in
     let other = from_other n e.left.now e.right.now e.predicate.now a.selectivities.now a.a a.b in
+    let below : IfSome l.c.lead (λ k. k < 4294967295) = wider l.c.lead l.i 4294967295 (omega (arith, e.as_long)) l.invariant.lead in
     let next : List ℕ → List ℕ → declared.Connection → Connection = λ s t z. rest s t (l.i + 1) (connection_of z) in
     record {
       value =
@@ -43,8 +43,7 @@ loop-i-preserved c =
           (elim c.if-connects.branch [
             | then-connects w ↦
                 ap (next s t) w.c-is
-                ∙ ap (rest s t (l.i + 1)) (w.with_edge-c.ensures.value (wider l.c.lead l.i 4294967295 (omega (arith, e.as_long)) l.invariant.lead))
-                ∙ ap (λ p. rest s t (l.i + 1) (with_edge a.selectivities.now l.i p (connection_of l.c))) w.predicate_of.ensures
+                ∙ ap (rest s t (l.i + 1)) (w.with_edge-c.ensures.value (at e.predicate.now) w.predicate_of.ensures below)
                 ∙ edge s t l.i (connection_of l.c) h (omega (arith, e.as_long)) (sym (on s t) ∙ w.if-connects.true)
             | else-connects w ↦ ap (next s t) w.c-is ∙ other s t l.i (connection_of l.c) h (sym (on s t) ∙ w.if-connects.false)
           ])

@@ -1,4 +1,5 @@
 use mathlib.Core.Path.{◌≡◌}
+use lib.ListN.{length}
 use Rattle.definition.specs.Edges.{empty_build}
 use Rattle.builder.specs.Builds.{edge_lists_of, SameEdgeLists, build_of, Added}
 use Rattle.hypergraph.specs.Walk.{Along}
@@ -11,7 +12,7 @@ invariant-loop-k l =
     let now = edge_lists_of l.lists in
     record {
       same : SameEdgeLists l.initial.lists l.lists;
-      along : Along sheet l.k l.b now;
-      built : rest sheet l.k (build_of sheet l.b now) ≡ rest sheet 0 empty_build;
+      along : Along sheet (length l.yielded) l.b now;
+      built : rest sheet (length l.yielded) (build_of sheet l.b now) ≡ rest sheet 0 empty_build;
       added : Added 0 l.b.edges (edge_lists_of l.initial.lists) now;
     }

@@ -1,59 +1,30 @@
-use mathlib.Core.Path.{◌≡◌, sym, ap, ap₂, ◌∙◌}
-use mathlib.Core.List.{List, [], ◌∷◌, ◌++◌, append-nil}
-use Prim.Native.Nat.{ℕ, ◌+◌, ◌<◌}
+use mathlib.Core.Path.{ap, ◌∙◌}
+use mathlib.Core.List.{List, ◌++◌}
 use native.Mathlib.Omega.{arith}
-use lib.ListN.{length, drop}
-use Rattle.definition.specs.Question.{Range, item, leaf}
-use Rattle.definition.specs.Sheet.{question_of}
-use Rattle.definition.proofs.QuestionLaws.{counts-leaf, counts-join}
-use Rattle.definition.proofs.SheetLaws.{length_items}
 use Rattle.definition.specs.Search.{Leaf}
-use Rattle.definition.specs.Call.{leaves_of}
 use Rattle.input.specs.View.{leaves_in}
-use Rattle.input.specs.Laws.{leaf_more, leaves_on, leaves_past, leaves_end}
+use Rattle.input.specs.Laws.{leaf_more, leaf_taken, join_passed, leaf_counted, join_uncounted, no_leaves}
 use Rattle.input.proofs.leaves.Goals as goal
-use Rattle.input.proofs.leaves.Goals.{then-item_kind-eq-LEAF, else-item_kind-eq-LEAF}
 
 pub push-requires : goal.push-requires
-push-requires c =
-    let s = c.args.sheet.now in
-    let q = question_of s.bytes.now in
-    let h : c.loop-i.i < length q.items = omega (arith, s.placed.items_many, length_items s.bytes.now) in
-    omega (arith, c.loop-i.invariant.1, counts-leaf q c.loop-i.i h (sym c.item_kind.ensures ∙ c.if-item_kind-eq-LEAF.true))
+push-requires c = omega (arith, c.loop-item.invariant.1, leaf_counted c.in-Some.ensures.steps c.if-item-eq-LEAF.true)
 
-pub loop-i-preserved : goal.loop-i-preserved
-loop-i-preserved c =
-    let s = c.args.sheet.now in
-    let q = question_of s.bytes.now in
-    let o = c.loop-i in
-    let i = o.i in
-    let h : i < length q.items = omega (arith, s.placed.items_many, length_items s.bytes.now) in
-    let rest = leaves_of (drop (i + 1) q.items) in
-    elim c.if-item_kind-eq-LEAF.branch [
-      | then-item_kind-eq-LEAF w ↦
-          let is : (item q i).kind ≡ leaf = sym c.item_kind.ensures ∙ w.if-item_kind-eq-LEAF.true in (
-            ap (λ t. leaves_in t.items ++ rest) w.leaves-is
-                ∙ leaves_on q i h (leaves_in o.leaves.items) is
-                (ap leaves_in w.push.ensures.items ∙ leaf_more o.leaves.items _
-                ∙ ap₂ (λ (r : ℕ) (x : Range). leaves_in o.leaves.items ++ (record { rows = r; columns = x.count } ∷ []))
-                w.item_rows-rows.ensures.0 w.item_range-columns.ensures)
-                ∙ o.invariant.0,
-            omega (arith, o.invariant.1, counts-leaf q i h is, ap (λ t. length t.items) w.leaves-is, w.push.ensures.len),
-          )
-      | else-item_kind-eq-LEAF w ↦
-          let join : (item q i).kind ≡ leaf → ⊥ = λ e. w.if-item_kind-eq-LEAF.false (c.item_kind.ensures ∙ e) in (
-            ap (λ t. leaves_in t.items ++ rest) w.leaves-is
-                ∙ ap (λ (ls : List Leaf). leaves_in o.leaves.items ++ ls) (leaves_past q i h join)
-                ∙ o.invariant.0,
-            omega (arith, o.invariant.1, counts-join q i h join, ap (λ t. length t.items) w.leaves-is),
-          )
-    ]
+pub loop-item-preserved-then-item-eq-LEAF : goal.loop-item-preserved-then-item-eq-LEAF
+loop-item-preserved-then-item-eq-LEAF c =
+    let o = c.loop-item in
+    let e = c.in-Some.ensures.steps in
+    let p = c.push.ensures in (
+      leaf_taken e (leaves_in o.leaves.items) c.if-item-eq-LEAF.true (ap leaves_in p.items ∙ leaf_more o.leaves.items _) ∙ o.invariant.0,
+      omega (arith, o.invariant.1, leaf_counted e c.if-item-eq-LEAF.true, p.len),
+    )
+
+pub loop-item-preserved : goal.loop-item-preserved
+loop-item-preserved c =
+    let o = c.loop-item in
+    let e = c.in-Some.ensures.steps in (
+      ap (λ (ls : List Leaf). leaves_in o.leaves.items ++ ls) (join_passed e c.if-item-eq-LEAF.false) ∙ o.invariant.0,
+      omega (arith, o.invariant.1, join_uncounted e c.if-item-eq-LEAF.false),
+    )
 
 pub returns : goal.returns
-returns c =
-    let o = c.loop-i in
-    let s = c.args.sheet.now in
-    let q = question_of s.bytes.now in
-    sym (append-nil (leaves_in o.leaves.items))
-    ∙ ap (λ (ls : List Leaf). leaves_in o.leaves.items ++ ls) (sym (leaves_end q o.i (omega (arith, s.placed.items_many, length_items s.bytes.now))))
-    ∙ o.invariant.0
+returns c = no_leaves (leaves_in c.loop-item.leaves.items) c.in-None.ensures.steps.0 ∙ c.loop-item.invariant.0

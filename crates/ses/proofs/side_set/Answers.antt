@@ -2,7 +2,7 @@ use mathlib.Core.Path.{sym, ap, ◌∙◌}
 use mathlib.Core.List.{List, ◌++◌}
 use Prim.Native.Nat.{ℕ, ◌+◌}
 use native.Mathlib.Omega.{arith}
-use Rattle.definition.specs.Question.{Range, part}
+use Rattle.definition.specs.Question.{Predicate, part}
 use Rattle.definition.specs.Sheet.{question_of}
 use Rattle.definition.proofs.SheetLaws.{length_predicates}
 use Rattle.definition.specs.Edges.{holders}
@@ -16,8 +16,8 @@ overflow_add-p c =
     let s = c.args.sheet.now in
     omega (arith, length_predicates s.bytes.now, s.placed.framed.few_predicates, c.requires.1.inside)
 
-pub predicate_range-r-requires : goal.predicate_range-r-requires
-predicate_range-r-requires c =
+pub predicate-requires : goal.predicate-requires
+predicate-requires c =
     let s = c.args.sheet.now in
     omega (arith, length_predicates s.bytes.now, s.placed.predicates_many, c.requires.1.inside)
 
@@ -31,7 +31,7 @@ loop-i-preserved c =
     let more = columns_from bs a.p.first a.p.count (l.i + 1) in
     ap (holders ls a.side more) c.with_holders-u.ensures
     ∙ holders-append ls a.side _ more l.u
-    ∙ ap (λ (r : Range). holders ls a.side (part r cols ++ more) l.u) c.predicate_range-r.ensures
+    ∙ ap (λ (x : Predicate). holders ls a.side (part x.range cols ++ more) l.u) c.predicate.ensures
     ∙ ap (λ (x : List ℕ). holders ls a.side x l.u) (sym (columns_step bs a.p.first a.p.count l.i c.loop-i-test.true c.requires.1.inside))
     ∙ l.invariant
 

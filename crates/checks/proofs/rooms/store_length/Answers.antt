@@ -1,17 +1,18 @@
-use native.Mathlib.Omega.{arith}
-use mathlib.Core.Path.{◌∙◌}
-use Rattle.checks.specs.RoomLaws.{store_bound, store_step, store_end}
+use Rattle.std.proofs.Common.{◌≡◌, ◌∙◌, min, arith, rules}
+use Rattle.std.proofs.lemmas.Iterator.{YieldsList-from_slice}
+use Rattle.std.proofs.lemmas.Iterator.Consumers.{fold_from_yields_List}
+use Rattle.definition.specs.Call.{store_length}
+use Rattle.checks.specs.RoomLaws.{store_fold, store_bound}
 use Rattle.checks.proofs.rooms.store_length.Goals as goal
 
-pub loop-n-init : goal.loop-n-init
-loop-n-init c = (omega arith, omega (arith, store_bound c.args.lengths.now))
+shortest : (c : goal.After-fold) → c.fold.result ≡ store_length c.args.lengths.now
+shortest c =
+    let ns = c.args.lengths.now in
+    let folded = fold_from_yields_List _ min 16777216 _ c.fold.ensures.ran (YieldsList-from_slice ns cc) (λ a x b q k. search rules) in
+    folded ∙ store_fold ns 16777216 (omega arith) ∙ omega (arith, store_bound ns)
 
-pub loop-n-preserved : goal.loop-n-preserved
-loop-n-preserved c =
-    let o = c.loop-n in
-    (omega (arith, c.min-shortest.ensures), store_step c.args.lengths.now o.n-index o.shortest _ c.loop-n-test.true c.min-shortest.ensures ∙ o.invariant.1)
+pub overflow_cast-result : goal.overflow_cast-result
+overflow_cast-result c = record { fits = omega (arith, shortest c, store_bound c.args.lengths.now) }
 
 pub returns : goal.returns
-returns c =
-    let o = c.loop-n in
-    omega (arith, store_end c.args.lengths.now o.n-index c.loop-n-test.false, o.invariant.0, o.invariant.1)
+returns c = shortest c

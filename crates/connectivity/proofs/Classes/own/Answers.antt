@@ -1,33 +1,20 @@
-use mathlib.Core.Path.{◌≡◌, refl, sym, ap, ap₂, ◌∙◌}
-use mathlib.Core.List.{List, [], ◌∷◌, ◌++◌}
-use Prim.Native.Nat.{ℕ, ◌*◌, ◌%◌, ◌^◌, ◌<◌}
 use native.Mathlib.Nat.{one-mul, mod-eq_of_lt}
-use native.Mathlib.Numerals.{add-one}
 use native.Mathlib.Omega.{arith}
-use lib.ListN.{length, take, set, length-set}
-use lib.Seq.{take-suc-set}
-use lib.Pow.{pow-lt}
+use Rattle.std.specs.Prelude.{◌≡◌, ◌*◌, ◌%◌, ◌^◌, get_or}
+use Rattle.std.proofs.Common.{sym, ◌∙◌, rules}
+use Rattle.std.proofs.Math.Pow.{pow-lt}
+use Rattle.std.proofs.Math.Seq.{take_all}
 use Rattle.nodeset.specs.Sets.{singleton}
 use Rattle.nodeset.specs.SetLaws.{singleton_is}
-use Rattle.definition.specs.Lists.{tabulate}
+use Rattle.definition.proofs.ListLaws.{tabulate-take, tabulate_same}
 use Rattle.connectivity.proofs.Classes.own.Goals as goal
 
-pub loop-i-init : goal.loop-i-init
-unfolding tabulate
-loop-i-init c = (refl, refl)
-
-pub loop-i-preserved : goal.loop-i-preserved
-unfolding tabulate
-loop-i-preserved c =
-    let i = c.loop-i.i in
-    let l = c.loop-i.classes in
-    let inv = c.loop-i.invariant in
-    let h : i < 64 = omega arith in
-    let hl : i < length l = omega arith in
-    let v = 1 * 2 ^ i % 2 ^ 64 in
-    let one : v ≡ singleton i = ap (λ (x : ℕ). x % 2 ^ 64) (one-mul (2 ^ i)) ∙ mod-eq_of_lt (pow-lt h) ∙ sym (singleton_is i h) in (
-      length-set l i v ∙ inv.0,
-      ap (λ (n : ℕ). take n (set l i v)) (add-one i) ∙ take-suc-set l i v hl
-          ∙ ap₂ (λ (xs : List ℕ) (x : ℕ). xs ++ (x ∷ [])) inv.1 one
-          ∙ ap (λ (n : ℕ). tabulate n singleton) (sym (add-one i)),
-    )
+pub returns : goal.returns
+returns c =
+    let r = c.from_fn.ensures.items in
+    let l = c.from_fn.result in
+    sym (take_all 64 l (omega (arith, r.long))) ∙ sym (tabulate-take 64 l (omega (arith, r.long)))
+    ∙ tabulate_same 64 (λ i. get_or l i 0) singleton (λ i h.
+    let x = r.at i 0 h in
+    let e : get_or l i 0 ≡ 1 * 2 ^ i % 2 ^ 64 = search rules in
+    rw (e, one-mul (2 ^ i), singleton_is i h) (mod-eq_of_lt (pow-lt h)))

@@ -1,36 +1,23 @@
--- One element more is as recorded, or the first that is not.
-use Rattle.std.proofs.Common.{◌≡◌, ◌+◌, ◌*◌, length, take, true, false, refl, subst, arith, rules, ◌∙◌}
-use Rattle.records.specs.ListedLaws.{Begun, begins_short, begins_front, begun_turn, begun_end}
+-- Each element is tested with its number, or the list is too short.
+use Rattle.std.proofs.Common.{◌+◌, ◌*◌, ◌∙◌, take, ap, arith, rules}
+use Rattle.std.proofs.lemmas.Bool.{lt-leb}
+use Rattle.std.proofs.lemmas.Iterator.{YieldsList-from_slice}
+use Rattle.std.proofs.lemmas.Iterator.Consumers.{YieldsList-from_enumerate}
+use Rattle.std.proofs.lemmas.Iterator.Search.{all_from_yields_List}
+use Rattle.records.specs.Listed.{begins}
+use Rattle.records.specs.ListedLaws.{begins_short, begins_numbered}
 use Rattle.records.proofs.lists.begins.Goals as goal
 
 pub returns-then-list-n : goal.returns-then-list-n
-returns-then-list-n g c = let a = c.args in begins_short (g.E.Element.recorded a.bytes.now) a.at a.step a.n a.list.now (omega arith)
-
-pub returns-then-not-is_recorded : goal.returns-then-not-is_recorded
-returns-then-not-is_recorded g c =
+returns-then-list-n g c =
     let a = c.args in
-    let w = c.loop-i in
     let is = g.E.Element.recorded a.bytes.now in
-    let front = take a.n a.list.now in
-    begun_turn is a.at a.step (length front) front (a.at + a.step * w.i) w.i w.invariant c.index-front-i.result (omega arith) (omega arith) false (search rules)
-    ∙ begins_front is a.at a.step a.n a.list.now front (omega arith) refl
+    all_from_yields_List (λ p. is (a.at + a.step * p.0) p.1) _ _ _ c.all.ensures.ran
+    (YieldsList-from_enumerate (YieldsList-from_slice (take a.n a.list.now) cc) cc) (λ x b q e. (search rules, search rules))
+    ∙ begins_numbered is a.at a.step 0 a.n a.list.now (omega arith)
+    ∙ ap (λ k. begins is k a.step a.n a.list.now) (omega arith)
 
-pub loop-i-preserved : goal.loop-i-preserved
-loop-i-preserved g c =
+pub returns-else-list-n : goal.returns-else-list-n
+returns-else-list-n g c =
     let a = c.args in
-    let w = c.loop-i in
-    let is = g.E.Element.recorded a.bytes.now in
-    let front = take a.n a.list.now in
-    let e : a.at + a.step * w.i + a.step ≡ a.at + a.step * (w.i + 1) = omega arith in
-    subst (λ h. Begun is a.at a.step (length front) front h (w.i + 1)) e
-    (begun_turn is a.at a.step (length front) front (a.at + a.step * w.i) w.i w.invariant c.index-front-i.result
-    (omega arith) (omega arith) true (search rules))
-
-pub returns : goal.returns
-returns g c =
-    let a = c.args in
-    let w = c.loop-i in
-    let is = g.E.Element.recorded a.bytes.now in
-    let front = take a.n a.list.now in
-    begun_end is a.at a.step (length front) front (a.at + a.step * w.i) w.i w.invariant (omega arith)
-    ∙ begins_front is a.at a.step a.n a.list.now front (omega arith) refl
+    lt-leb _ _ c.if-list-n.false ∙ begins_short (g.E.Element.recorded a.bytes.now) a.at a.step a.n a.list.now (omega arith)

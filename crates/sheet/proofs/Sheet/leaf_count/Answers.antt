@@ -1,30 +1,16 @@
-use mathlib.Core.Path.{sym, ◌∙◌}
-use native.Mathlib.Omega.{arith}
-use Prim.Native.Nat.{◌<◌}
-use lib.ListN.{length}
+use Rattle.std.proofs.Common.{eqb, ◌∙◌, rules, tests}
+use Rattle.std.proofs.lemmas.Iterator.Consumers.{YieldsList-at, YieldsList-from_first, YieldsList-from_filter, count_from_yields_List}
+use Rattle.definition.specs.Question.{Item, leaf}
 use Rattle.definition.specs.Sheet.{question_of}
-use Rattle.definition.proofs.QuestionLaws.{counts-leaf, counts-join, counts_none}
-use Rattle.definition.proofs.SheetLaws.{length_items}
+use Rattle.sheet.specs.Views.{item_of}
+use Rattle.sheet.specs.ItemsLeft.{items_left}
+use Rattle.sheet.proofs.ItemLaws.{leaves_counted}
 use Rattle.sheet.proofs.Sheet.leaf_count.Goals as goal
-use Rattle.sheet.proofs.Sheet.leaf_count.Goals.{then-item_kind-eq9, else-item_kind-eq9}
-
-pub loop-i-preserved : goal.loop-i-preserved
-loop-i-preserved c =
-    let a = c.args in
-    let q = question_of a.self.now.bytes.now in
-    let i = c.loop-i.i in
-    let h : i < length q.items = omega (arith, length_items a.self.now.bytes.now) in
-    let kind = c.item_kind.ensures in
-    elim c.if-item_kind-eq9.branch [
-      | then-item_kind-eq9 w ↦
-          (omega arith, omega (arith, counts-leaf q i h (sym kind ∙ w.if-item_kind-eq9.true), c.loop-i.invariant.1))
-      | else-item_kind-eq9 w ↦
-          (omega arith, omega (arith, counts-join q i h (λ e. w.if-item_kind-eq9.false (kind ∙ e)), c.loop-i.invariant.1))
-    ]
 
 pub returns : goal.returns
 returns c =
-    let a = c.args in
-    let q = question_of a.self.now.bytes.now in
-    let i = c.loop-i.i in
-    omega (arith, counts_none q i (omega (arith, length_items a.self.now.bytes.now)), c.loop-i.invariant.1)
+    let given = YieldsList-from_first item_of items_left _ c.items.ensures.items in
+    count_from_yields_List c.filter.result _ c.count.ensures.ran
+    (YieldsList-from_filter _ (λ (x : Item). eqb x.kind leaf) (YieldsList-at c.filter.ensures.source given) c.filter.ensures.closure
+    (λ x b q k. search (rules, tests)))
+    ∙ leaves_counted (question_of c.args.self.now.bytes.now).items

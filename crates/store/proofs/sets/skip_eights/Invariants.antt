@@ -1,11 +1,12 @@
-use mathlib.Core.Path.{◌≡◌}
-use Prim.Native.Nat.{◌-◌, ◌≤◌}
-use lib.ListN.{take, drop}
+use Rattle.std.proofs.Common.{◌≡◌, ◌≤◌, length, drop}
+use Rattle.std.specs.Slice.Iter.{chunks_exact_rest, chunks_exact_size}
 use Rattle.store.specs.Memo.{spot}
 use Rattle.store.proofs.sets.skip_eights.Given as goal
 
-abbrev pub invariant-loop-i : goal.invariant-loop-i
-invariant-loop-i l = (l.i ≤ l.count) × (spot l.i (drop l.i (take l.count l.mset)) l.s ≡ spot 0 (take l.count l.mset) l.s)
-
-abbrev pub decreases-loop-i : goal.decreases-loop-i
-decreases-loop-i l = l.count - l.i
+abbrev pub invariant-loop-eight : goal.invariant-loop-eight
+invariant-loop-eight l = record {
+  inside : l.i ≤ length l.mset;
+  size : chunks_exact_size l.eight-iterator ≡ 8;
+  rest : chunks_exact_rest l.eight-iterator ≡ drop l.i l.mset;
+  value : spot l.i (drop l.i l.mset) l.s ≡ spot 0 l.mset l.s;
+}

@@ -1,2 +1,0 @@
--- The loops over subsets.
-pub mod Loops

@@ -1,8 +1,0 @@
-use mathlib.Core.Path.{◌∙◌}
-use Rattle.sheet.specs.Placing.{selectivity_here}
-use Rattle.sheet.proofs.Sheet.predicate_selectivity.Goals as goal
-
-pub returns : goal.returns
-returns c =
-    let a = c.args in
-    c.word.ensures ∙ selectivity_here a.self.now.bytes.now a.self.now.sections a.self.now.placed a.p.0 c.requires
