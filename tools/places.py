@@ -9,7 +9,7 @@ import sys
 
 sys.dont_write_bytecode = True
 sys.path.insert(0, os.path.dirname(os.path.abspath(__file__)))
-from sources import antt_files, closing, conjuncts, crates_of, files, flat, is_answers, read_all, read_antt, split_top  # noqa: E402
+from sources import antt_files, blank, closing, conjuncts, crates_of, files, flat, is_answers, read_all, read_antt, split_top, text_of  # noqa: E402
 
 NUMBER = r"(?:u8|u16|u32|u64|usize)"
 # names under which the sources hold a kind, a type, a stop, an answer's number, a table's number or a number that may be none
@@ -51,11 +51,22 @@ def whiles(f):
         yield line, flat(f.body[m.end() : i]), f.body[i : closing(f.body, i)]
 
 
+def indexed_fors(f):
+    """The `for`s over a range of numbers whose number is the whole index of a list in their body."""
+    for m in re.finditer(r"\bfor (\w+) in ([^{;]*\.\.[^{;]*?)\s*\{", f.body):
+        inside = f.body[m.end() - 1 : closing(f.body, m.end() - 1)]
+        if re.search(r"\w\[" + m[1] + r"(?: as usize)?\]|\bat\([\w.]+, " + m[1] + r", ", inside):
+            yield f.body_line + f.body.count("\n", 0, m.start()), m[1], flat(m[2])
+
+
 # ---- 1: enums of the shape of Option or Result, flags beside values, numbers for kinds and refusals
 
 
 def point1(functions, types, consts, impls, root):
     whole = " ".join(f.sign for f in functions) + " ".join(y.text for y in types)
+    for crate in crates_of(root):
+        for p in files(root, crate, "src", ".rt"):
+            whole += " ".join(re.findall(r"\btype \w+(?:<[^>]*>)? = [^;]+;", blank(text_of(p))))
     for y in types:
         if y.word != "enum":
             continue
@@ -140,6 +151,8 @@ def point3(functions, types, consts, impls, root):
                     if re.fullmatch(r"\d+", by) and re.search(r"\[[^\]]*\b" + v + r"\b", body):
                         say(3, f, f"while {test}: steps the index {v} by {by}", line=line)
                         break
+        for line, v, over in indexed_fors(f):
+            say(3, f, f"for {v} in {over}: {v} is an index", line=line)
 
 
 # ---- 4: equality, order, copying, conversion and printing by hand
