@@ -12,6 +12,10 @@ past l s i k e h =
     ap (λ (t : List ℕ). spot (i + k) (drop (i + k) t) s) (sym (take-length l)) ∙ spot_past l s (length l) k i e (omega (arith, h))
     ∙ ap (λ (t : List ℕ). spot i (drop i t) s) (take-length l)
 
+-- what the eight places x say of l from i on, where r is left behind them
+abbrev Cut : List ℕ → List ℕ → List ℕ → ℕ → ℕ → Type 0
+Cut x r l i s = (i + 8 ≤ length l) × (holds x 0 4 s ≡ holds l i 4 s) × (holds x 4 4 s ≡ holds l (i + 4) 4 s) × (r ≡ drop (i + 8) l)
+
 -- a part x of l, which begins at i
 module _ (x r l : List ℕ) (i s : ℕ) (part : drop i l ≡ x ++ r) (eight : length x ≡ 8) (low : i ≤ length l) where
   inside : i + 8 ≤ length l
@@ -26,13 +30,17 @@ module _ (x r l : List ℕ) (i s : ℕ) (part : drop i l ≡ x ++ r) (eight : le
   same (suc k) j m e h =
       ap₂ ◌||◌ (ap (λ (v : ℕ). eqb v s) (at j (omega arith) ∙ ap (λ (v : ℕ). get_or l v 0) (sym e))) (same k (suc j) (suc m) (omega arith) (omega arith))
 
-  cut : (i + 8 ≤ length l) × (holds x 0 4 s ≡ holds l i 4 s) × (holds x 4 4 s ≡ holds l (i + 4) 4 s) × (r ≡ drop (i + 8) l)
+  cut : Cut x r l i s
   cut = (
     inside,
     same 4 0 i (omega arith) (omega arith),
     same 4 4 (i + 4) refl (omega arith),
     sym (drop_at x r 8 eight) ∙ ap (drop 8) (sym part) ∙ drop-drop 8 i l,
   )
+
+-- m, what the iterator had left, is cut into the eight x and r
+here : (x r l : List ℕ) (s : ℕ) {i n : ℕ} {m : List ℕ} → i ≤ length l → m ≡ drop i l → n ≡ 8 → (m ≡ x ++ r) × (length x ≡ n) → Cut x r l i s
+here x r l s {i} low left eight step = cut x r l i s (sym left ∙ step.0) (step.1 ∙ eight) low
 
 pub loop-eight-init : goal.loop-eight-init
 loop-eight-init c =
@@ -42,41 +50,33 @@ loop-eight-init c =
 
 pub overflow_add-result : goal.overflow_add-result
 overflow_add-result c =
-    let a = c.args in
     let h = c.loop-eight.invariant in
-    let step = c.in-Some.ensures.steps.1 in
-    let w = cut _ _ a.mset.now c.loop-eight.i a.s (sym h.rest ∙ step.0) (step.1 ∙ h.size) h.inside in
-    omega (arith, w.0, c.ranges)
+    omega (arith, (here _ _ c.args.mset.now c.args.s h.inside h.rest h.size c.in-Some.ensures.steps.1).0, c.ranges)
 
 pub returns-then-four_has-2 : goal.returns-then-four_has-2
 returns-then-four_has-2 c =
     let a = c.args in
     let h = c.loop-eight.invariant in
-    let step = c.in-Some.ensures.steps.1 in
-    let w = cut _ _ a.mset.now c.loop-eight.i a.s (sym h.rest ∙ step.0) (step.1 ∙ h.size) h.inside in
+    let w = here _ _ c.args.mset.now c.args.s h.inside h.rest h.size c.in-Some.ensures.steps.1 in
     let first = sym w.1 ∙ sym c.four_has.ensures ∙ c.if-four_has.false in
     (omega (arith, w.0), past a.mset.now a.s c.loop-eight.i 4 first (omega (arith, w.0)) ∙ h.value)
 
 pub overflow_add-i : goal.overflow_add-i
 overflow_add-i c =
-    let a = c.args in
     let h = c.loop-eight.invariant in
-    let step = c.in-Some.ensures.steps.1 in
-    let w = cut _ _ a.mset.now c.loop-eight.i a.s (sym h.rest ∙ step.0) (step.1 ∙ h.size) h.inside in
-    omega (arith, w.0, c.ranges)
+    omega (arith, (here _ _ c.args.mset.now c.args.s h.inside h.rest h.size c.in-Some.ensures.steps.1).0, c.ranges)
 
 pub loop-eight-preserved : goal.loop-eight-preserved
 loop-eight-preserved c =
     let a = c.args in
     let h = c.loop-eight.invariant in
-    let step = c.in-Some.ensures.steps in
-    let w = cut _ _ a.mset.now c.loop-eight.i a.s (sym h.rest ∙ step.1.0) (step.1.1 ∙ h.size) h.inside in
+    let w = here _ _ c.args.mset.now c.args.s h.inside h.rest h.size c.in-Some.ensures.steps.1 in
     let first = sym c.if-four_has.false ∙ c.four_has.ensures ∙ w.1 in
     let second = sym c.if-four_has-2.false ∙ c.four_has-in-loop-eight.ensures ∙ w.2 in
     let neither = sym (holds_more a.mset.now a.s c.loop-eight.i 4 4 first second) in
     record {
       inside = w.0;
-      size = step.0 ∙ h.size;
+      size = c.in-Some.ensures.steps.0 ∙ h.size;
       rest = w.3;
       value = past a.mset.now a.s c.loop-eight.i 8 neither (omega (arith, w.0)) ∙ h.value;
     }
