@@ -1,11 +1,13 @@
 -- Laws of the store's definitions, one for each way through a function of the crate. Assumes nothing.
-use Rattle.std.specs.Prelude.{◌≡◌, List, Bool, ℕ, ◌+◌, ◌<◌, ◌≤◌, get_or, ltb, eqb, Float, Option, None, Some, is_some}
+use Rattle.std.specs.Prelude.{◌≡◌, List, Bool, ℕ, ◌+◌, ◌<◌, ◌≤◌, get_or, ltb, Float, Option, None, Some, is_some}
 use Rattle.std.proofs.Math.Path.{refl, sym, ap, ap₂}
 use Rattle.std.proofs.Common.{◌∙◌}
+use Rattle.std.proofs.Math.Option as math
+use Rattle.std.proofs.Math.Option.{none, some}
 use Rattle.std.proofs.Math.Bool.{true, false}
 use Rattle.std.proofs.lemmas.Bool.{false≢true}
 use Rattle.std.specs.Int.Bits.{bit_or}
-use borrow.Author.Tests.{eq-eqb, ne_eqb, lt-ltb, le-ltb, ltb-true}
+use borrow.Author.Tests.{lt-ltb, le-ltb, ltb-true}
 use Rattle.nodeset.specs.Sets.{singleton}
 use Rattle.definition.specs.Question.{leaf}
 use Rattle.definition.specs.Hypergraph.{none32}
@@ -21,22 +23,8 @@ use Rattle.candidate.specs.declared.Candidate.{Candidate}
 use Rattle.candidate.specs.declared.Place.{Place}
 use Rattle.candidate.specs.declared.Due.{Due}
 use Rattle.candidate.specs.declared.Due.TheVariants.{Make, Stop, Skip}
-use Rattle.candidate.specs.Store.{Lists, Given, lists, store, edges, spot_of, at, kind_of, lead_kind, place, place_of, made, placed}
+use Rattle.candidate.specs.Store.{Lists, Given, lists, store, edges, spot_of, at, place, place_of, made, placed}
 use Rattle.candidate.specs.Store.{linked, paired, plan_for, due_of, written, applied, attempt, leaf_written}
-
--- ---- a candidate's kind
-
-pub kind_none : (f : Bool) (k : ℕ) → f ≡ false → 8 ≡ kind_of f k
-unfolding kind_of
-kind_none f k e = rw e
-
-pub kind_cross : (f : Bool) (k : ℕ) → f ≡ true → k ≡ 8 → 0 ≡ kind_of f k
-unfolding kind_of
-kind_cross f k e h = rw (e, kind_of, eq-eqb k 8 h)
-
-pub kind_join : (f : Bool) (k : ℕ) → f ≡ true → (k ≡ 8 → ⊥) → k ≡ kind_of f k
-unfolding kind_of
-kind_join f k e h = rw (e, kind_of, ne_eqb k 8 h)
 
 -- ---- a candidate's memo entry
 
@@ -80,39 +68,38 @@ module _ (g : Given) (h : Lists) (p : DPhyp) (a b : ℕ) where
 
   -- with the plans l and r kept for a and b, and what the connecting edges give
   module _ {l r : PlanId} (s : is_some p.stop ≡ false) (el : plan_for h p a ≡ Some l) (er : plan_for h p b ≡ Some r) where
-    abbrev pub given-edges : Connection
-    given-edges = connection (edges g) g.selectivity a b (product (at h l.0) (at h r.0))
+    abbrev pub given-edges : math.Option Connection
+    given-edges = connection (edges g) g.kinds g.selectivity a b (product (at h l.0) (at h r.0))
 
     due_linked : due_of g h p a b ≡ linked g h p (bit_or a b) l.0 r.0 given-edges
     unfolding paired
     due_linked = due_runs s ∙ ap₂ (λ (u v : Option PlanId). paired g h p a b u v) el er
 
-    module _ {c : Connection} (ec : c ≡ given-edges) where
-      due_is : due_of g h p a b ≡ linked g h p (bit_or a b) l.0 r.0 c
+    pub due_none : none ≡ given-edges → Skip ≡ due_of g h p a b
+    unfolding linked
+    due_none n = sym (due_linked ∙ ap (linked g h p (bit_or a b) l.0 r.0) (sym n))
+
+    module _ {c : Connection} (ec : some c ≡ given-edges) where
+      due_is : due_of g h p a b ≡ linked g h p (bit_or a b) l.0 r.0 (some c)
       due_is = due_linked ∙ ap (linked g h p (bit_or a b) l.0 r.0) (sym ec)
 
-      pub due_none : c.lead ≡ none32 → Skip ≡ due_of g h p a b
+      pub due_full : g.plan_room ≤ p.plans → Stop PlansFull ≡ due_of g h p a b
       unfolding linked
-      due_none n = sym (due_is ∙ rw (eq-eqb c.lead none32 n, linked))
+      due_full m = sym (due_is ∙ rw (linked, le-ltb p.plans g.plan_room m))
 
-      pub due_full : (c.lead ≡ none32 → ⊥) → g.plan_room ≤ p.plans → Stop PlansFull ≡ due_of g h p a b
-      unfolding linked
-      due_full n m = sym (due_is ∙ rw (ne_eqb c.lead none32 n, linked, le-ltb p.plans g.plan_room m))
-
-      module _ {k : ℕ} {e : Estimate} {t : Option Place} (n : c.lead ≡ none32 → ⊥) (m : p.plans < g.plan_room)
-          (ek : k ≡ kind_of c.filters (lead_kind g.source g.kinds c.lead)) (ee : e ≡ candidate_from k (at h l.0) (at h r.0) c.rows)
+      module _ {e : Estimate} {t : Option Place} (m : p.plans < g.plan_room) (ee : e ≡ candidate_from c.kind (at h l.0) (at h r.0) c.rows)
           (et : t ≡ place_of h.prows h.pcost h.mplan p.memo g.memo_room p.plans e (spot_of h p (bit_or a b))) where
-        due_placed : due_of g h p a b ≡ placed l.0 r.0 c.lead k e t
+        due_placed : due_of g h p a b ≡ placed l.0 r.0 c.lead c.kind e t
         unfolding linked
-        due_placed = due_is ∙ rw (ne_eqb c.lead none32 n, linked, lt-ltb p.plans g.plan_room m, et, ee, ek)
+        due_placed = due_is ∙ rw (linked, lt-ltb p.plans g.plan_room m, et, ee)
 
         pub due_no_place : t ≡ None → Stop MemoFull ≡ due_of g h p a b
         unfolding placed
-        due_no_place q = sym (due_placed ∙ ap (placed l.0 r.0 c.lead k e) q)
+        due_no_place q = sym (due_placed ∙ ap (placed l.0 r.0 c.lead c.kind e) q)
 
-        pub due_place : {o : Place} → t ≡ Some o → Make (made l.0 r.0 c.lead k e o) ≡ due_of g h p a b
+        pub due_place : {o : Place} → t ≡ Some o → Make (made l.0 r.0 c.lead c.kind e o) ≡ due_of g h p a b
         unfolding placed
-        due_place q = sym (due_placed ∙ ap (placed l.0 r.0 c.lead k e) q)
+        due_place q = sym (due_placed ∙ ap (placed l.0 r.0 c.lead c.kind e) q)
 
 pub lists_eq : {a a' b b' c c' d d' e e' : List ℕ} {f f' g g' : List Float} {h h' i i' : List ℕ}
     → a ≡ a' → b ≡ b' → c ≡ c' → d ≡ d' → e ≡ e' → f ≡ f' → g ≡ g' → h ≡ h' → i ≡ i' → lists a b c d e f g h i ≡ lists a' b' c' d' e' f' g' h' i'
@@ -144,20 +131,20 @@ module _ (g : Given) (a b : ℕ) (h : Lists) (p : DPhyp) where
   unfolding due_of paired linked
   make_room {c} e = go (is_some p.stop) (plan_for h p a) (plan_for h p b) (ap is_make (sym e))
     where
-      link : (s l r : ℕ) (d : Connection) → is_make (linked g h p s l r d) ≡ true → p.plans < g.plan_room
-      link s l r d = test (eqb d.lead none32) (ltb p.plans g.plan_room) (ltb-true p.plans g.plan_room) _
+      link : (s l r : ℕ) (d : math.Option Connection) → is_make (linked g h p s l r d) ≡ true → p.plans < g.plan_room
+      link s l r none q = absurd (false≢true q)
+      link s l r (some c) q = test (ltb p.plans g.plan_room) (ltb-true p.plans g.plan_room) _ q
         where
-          test : (x y : Bool) → (y ≡ true → p.plans < g.plan_room) → (z : Due)
-              → is_make (elim x [ true ↦ Skip | false ↦ elim y [ true ↦ z | false ↦ Stop PlansFull ] ]) ≡ true → p.plans < g.plan_room
-          test true y f z q = absurd (false≢true q)
-          test false true f z q = f refl
-          test false false f z q = absurd (false≢true q)
+          test : (y : Bool) → (y ≡ true → p.plans < g.plan_room) → (z : Due) → is_make (elim y [ true ↦ z | false ↦ Stop PlansFull ]) ≡ true
+              → p.plans < g.plan_room
+          test true f z q = f refl
+          test false f z q = absurd (false≢true q)
 
       go : (x : Bool) (u v : Option PlanId) → is_make (elim x [ true ↦ Skip | false ↦ paired g h p a b u v ]) ≡ true → p.plans < g.plan_room
       go true u v q = absurd (false≢true q)
       go false None v q = absurd (false≢true q)
       go false (Some l) None q = absurd (false≢true q)
-      go false (Some l) (Some r) q = link (bit_or a b) l.0 r.0 (connection (edges g) g.selectivity a b (product (at h l.0) (at h r.0))) q
+      go false (Some l) (Some r) q = link (bit_or a b) l.0 r.0 (connection (edges g) g.kinds g.selectivity a b (product (at h l.0) (at h r.0))) q
 
 -- ---- a leaf
 

@@ -1,9 +1,11 @@
 -- The state of the search as it lies in the lent lists: nine lists and four counts; and what kept, visit and attempt make of it.
-use Rattle.std.specs.Prelude.{◌≡◌, List, [], Bool, true, false, ℕ, ◌+◌, get_or, set, take, ltb, eqb, Float, Option, None, Some, is_some}
+use Rattle.std.specs.Prelude.{◌≡◌, List, [], Bool, true, false, ℕ, ◌+◌, get_or, set, take, ltb, Float, Option, None, Some, is_some}
+use Rattle.std.proofs.Math.Option as math
+use Rattle.std.proofs.Math.Option.{none, some}
 use Rattle.std.specs.Int.Bits.{bit_or}
 use Rattle.nodeset.specs.declared.PlanId.{PlanId}
 use Rattle.nodeset.specs.Sets.{singleton}
-use Rattle.definition.specs.Question.{inner, cross_product, leaf}
+use Rattle.definition.specs.Question.{leaf}
 use Rattle.definition.specs.Hypergraph.{Edge, none32}
 use Rattle.definition.specs.EdgeView.{edges_of}
 use Rattle.definition.specs.Cost.{Estimate, product, candidate_from, cheaper}
@@ -75,13 +77,6 @@ visit limit st = store st.held (visit_of limit st.at)
 
 -- ---- a candidate
 
--- k: the kind of the lead edge's source item
-unfoldable pub kind_of : Bool → ℕ → ℕ
-kind_of filters k = elim filters [ true ↦ elim (eqb k cross_product) [ true ↦ inner | false ↦ k ] | false ↦ cross_product ]
-
-abbrev pub lead_kind : List ℕ → List ℕ → ℕ → ℕ
-lead_kind source kinds lead = get_or kinds (get_or source lead 0) 0
-
 abbrev pub place : ℕ → ℕ → ℕ → Place
 place position best entries = record { position = position; best = plan_id best; entries = entries }
 
@@ -104,26 +99,23 @@ placed l r lead kind e None = Stop MemoFull
 abbrev pub at : Lists → ℕ → Estimate
 at h n = estimate_at h.prows h.pcost n
 
--- with the plans l and r kept for the two sets, whose union is s, and what the connecting edges give
-unfoldable pub linked : Given → Lists → DPhyp → ℕ → ℕ → ℕ → Connection → Due
-linked g h p s l r c =
-    elim (eqb c.lead none32) [
-      | true ↦ Skip
-      | false ↦
-          elim (ltb p.plans g.plan_room) [
-            | true ↦
-                let kind = kind_of c.filters (lead_kind g.source g.kinds c.lead) in
-                let e = candidate_from kind (at h l) (at h r) c.rows in
-                placed l r c.lead kind e (place_of h.prows h.pcost h.mplan p.memo g.memo_room p.plans e (spot_of h p s))
-            | false ↦ Stop PlansFull
-          ]
+-- with the plans l and r kept for the two sets, whose union is s; the last argument: what the connecting edges give, none where no edge connects
+-- the two
+unfoldable pub linked : Given → Lists → DPhyp → ℕ → ℕ → ℕ → math.Option Connection → Due
+linked g h p s l r none = Skip
+linked g h p s l r (some c) =
+    elim (ltb p.plans g.plan_room) [
+      | true ↦
+          let e = candidate_from c.kind (at h l) (at h r) c.rows in
+          placed l r c.lead c.kind e (place_of h.prows h.pcost h.mplan p.memo g.memo_room p.plans e (spot_of h p s))
+      | false ↦ Stop PlansFull
     ]
 
 unfoldable pub paired : Given → Lists → DPhyp → ℕ → ℕ → Option PlanId → Option PlanId → Due
 paired g h p a b None r = Skip
 paired g h p a b (Some l) None = Skip
 paired g h p a b (Some l) (Some r) =
-    linked g h p (bit_or a b) l.0 r.0 (connection (edges g) g.selectivity a b (product (at h l.0) (at h r.0)))
+    linked g h p (bit_or a b) l.0 r.0 (connection (edges g) g.kinds g.selectivity a b (product (at h l.0) (at h r.0)))
 
 abbrev pub plan_for : Lists → DPhyp → ℕ → Option PlanId
 plan_for h p s = kept_of h.mplan (spot_of h p s)

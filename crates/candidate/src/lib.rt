@@ -4,11 +4,11 @@
 ghost use Rattle.std.specs.Prelude.{◌≡◌, take};
 ghost use Rattle.cost.specs.View.{estimate_of};
 ghost use Rattle.store.specs.Memo.{spot};
-ghost use Rattle.candidate.specs.Store.{kind_of, lead_kind, place_of, Decides};
+ghost use Rattle.candidate.specs.Store.{place_of, Decides};
 ghost use Rattle.candidate.specs.Lent.{given_of};
 
 use cost::Estimate;
-use nodeset::{CROSS_PRODUCT, INNER, PlanId};
+use nodeset::PlanId;
 use store::{DPhyp, Input, Stop};
 
 // A candidate's memo entry: its position, the plan that it is to name, and the number of entries with it.
@@ -40,27 +40,6 @@ pub enum Due {
     Skip,
 }
 
-// k: the kind of the lead edge's source item.
-// kept: a kind is a number, as the lent lists hold it.
-#[tactic(auto, unfolding(crate::specs::Store::kind_of))]
-fn candidate_kind(filters: bool, k: u32) -> u32
-    ensures { result ≡ kind_of filters k }
-{
-    match (filters, k) {
-        (false, _) => CROSS_PRODUCT,
-        (true, CROSS_PRODUCT) => INNER,
-        (true, _) => k,
-    }
-}
-
-// The kind of the lead edge's source item.
-// kept: the edge and the kind are numbers, as the lent lists hold them.
-fn lead_kind(g: &Input<'_>, lead: u32) -> u32
-    ensures { result ≡ lead_kind g.now.edges.source.now g.now.kinds.now lead }
-{
-    store::at(g.kinds, store::at(g.edges.source, lead, 0), 0)
-}
-
 // The memo's entry for the next plan, of the set s and with this estimate; none where the set is new and the memo has no room.
 // kept: shared slices, so that lists lent for reading alone will do.
 #[tactic(auto, unfolding(crate::specs::Store::place_of))]
@@ -87,7 +66,7 @@ fn find_place(
         }
         return None;
     };
-    let old = PlanId(store::at(mplan, i, 0));
+    let old = PlanId(places::at(mplan, i, 0));
     let best = if cost::cheaper(e, store::estimate_at(prows, pcost, old)) {
         n
     } else {
@@ -126,23 +105,22 @@ pub fn decide(
     };
     let x = store::estimate_at(prows, pcost, left);
     let y = store::estimate_at(prows, pcost, right);
-    let c = cost::connect(&g.edges, g.selectivities, a, b, cost::product(x, y));
-    let Some(lead) = c.lead else {
+    let product = cost::product(x, y);
+    let Some(c) = cost::connect(&g.edges, g.kinds, g.selectivities, a, b, product) else {
         return Due::Skip;
     };
     if p.plans >= g.plan_room {
         return Due::Stop(Stop::PlansFull);
     }
-    let kind = candidate_kind(c.filters, lead_kind(g, lead));
-    let e = cost::candidate_estimate(kind, x, y, c.rows);
+    let e = cost::candidate_estimate(c.kind, x, y, c.rows);
     let Some(place) = find_place(g, prows, pcost, mset, mplan, a | b, e, p) else {
         return Due::Stop(Stop::MemoFull);
     };
     Due::Make(Candidate {
         left,
         right,
-        lead,
-        kind,
+        lead: c.lead,
+        kind: c.kind,
         estimate: e,
         place,
     })

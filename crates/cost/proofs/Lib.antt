@@ -1,3 +1,4 @@
 pub mod Floats
+pub mod EdgeMet
 pub mod RowRules
 pub mod StandingLaws

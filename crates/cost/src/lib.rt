@@ -1,17 +1,18 @@
-// Rows and cost of plans (CostModel of cost.rs, one model): of a leaf, and of a candidate over the edges that connect its two sets.
+// Rows and cost of plans (CostModel of cost.rs, one model): of a leaf, and of a candidate; and its lead edge, kind and rows from the edges
+// that connect its two sets.
 #![tactic(auto)]
 
 mod edges;
 
-ghost use Rattle.std.specs.Prelude.{◌≡◌, ◌<◌, ◌&&◌, ℕ, length, get_or, IfSome, Some};
-ghost use Rattle.std.specs.Option.{option_or};
+ghost use Rattle.std.specs.Prelude.{◌≡◌, ◌<◌, ◌&&◌, length, get_or, IfSome};
 ghost use Rattle.nodeset.specs.Sets.{within};
 ghost use Rattle.definition.specs.Cost.{whole, leaf_estimate, product, lesser, greater, capped, rows_by_kind, candidate_rows, candidate_from, cheaper};
-ghost use Rattle.definition.specs.EdgeWalkLaws.{with_edge};
-ghost use Rattle.cost.specs.View.{estimate_of, connection_of, predicate_from, rows_with, Connects, Connected};
+ghost use Rattle.definition.specs.Connection.{candidate_kind};
+ghost use Rattle.cost.specs.View.{estimate_of, predicate_from, rows_with, with_edge, Connects, Walked, Connected};
 
 pub use edges::Edges;
-use nodeset::{NONE, PredicateId};
+use nodeset::{CROSS_PRODUCT, INNER, NONE, PredicateId};
+use places::at;
 
 // 2^500
 const CEILING: f64 = 3.273390607896142e150;
@@ -30,14 +31,23 @@ pub struct Estimate {
     pub cost: f64,
 }
 
-// What a candidate takes from the edges that connect its two sets: the lowest of them, if any, whether one has a predicate, and what is
-// left of the product after the selectivities.
+// What a candidate takes from the edges that connect its two sets: the lowest of them, the candidate's kind, and what is left of the product
+// after the selectivities.
+// kept: the edge and the kind are numbers, as the lent lists hold them.
+#[derive(Clone, Copy)]
+pub struct Connection {
+    pub lead: u32,
+    pub kind: u32,
+    pub rows: f64,
+}
+
+// What the walk over the edges has met: the first connecting edge, if any, whether one has a predicate, and what is left of the product.
 // kept: filters is a flag of its own; lead and rows mean the same whether it is set or not.
 #[derive(Drop)]
-pub struct Connection {
-    pub lead: Option<u32>,
-    pub filters: bool,
-    pub rows: f64,
+struct Gathered {
+    lead: Option<u32>,
+    filters: bool,
+    rows: f64,
 }
 
 // The nearest f64.
@@ -143,54 +153,43 @@ pub fn connects(left: u64, right: u64, a: u64, b: u64) -> bool
     lie_in(left, a, right, b) || lie_in(left, b, right, a)
 }
 
-// 0 past the end.
-// kept: the definition reads 0 there, and an Option would be unmade at once.
-fn selectivity_of(selectivities: &[u32], p: PredicateId) -> u32
-    ensures { result ≡ get_or selectivities.now p.0 0 }
-{
-    selectivities.get(p.0 as usize).copied().unwrap_or(0)
-}
-
 #[tactic(auto, using(crate::proofs::Floats::full_bits))]
 fn rows_after(selectivities: &[u32], p: Option<PredicateId>, rows: f64) -> f64
     ensures { result ≡ rows_with selectivities.now p rows }
 {
     p.map_or(
         rows,
-        |p| rows * (selectivity_of(selectivities, p) as f64 / 65536.0),
+        |p| rows * (at(selectivities, p.0, 0) as f64 / 65536.0),
     )
 }
 
 // The predicate of edge i, if it has one. Past the end it is 0.
 // kept: the definition reads 0 there.
-fn predicate_of(predicates: &[u32], i: usize) -> Option<PredicateId>
+fn predicate_of(predicates: &[u32], i: u32) -> Option<PredicateId>
     ensures { result ≡ predicate_from (get_or predicates.now i 0) }
 {
-    let p = predicates.get(i).copied().unwrap_or(0);
+    let p = at(predicates, i, 0);
     (p != NONE).then_some(PredicateId(p))
 }
 
 // With one connecting edge more: number i, with the predicate p.
-#[tactic(auto, unfolding(definition::specs::EdgeWalkLaws::with_edge, definition::specs::EdgeWalkLaws::rows_after))]
-fn with_edge(selectivities: &[u32], i: u32, p: Option<PredicateId>, c: Connection) -> Connection
-    ensures value { (n : ℕ) → p ≡ predicate_from n → IfSome c.lead (λ k. k < 4294967295)
-        → connection_of result ≡ with_edge selectivities.now i n (connection_of c) }
-    ensures lead { result.lead ≡ option_or c.lead (Some i) }
+fn with_edge(selectivities: &[u32], i: u32, p: Option<PredicateId>, g: Gathered) -> Gathered
+    ensures { result ≡ with_edge selectivities.now i p g }
 {
-    Connection {
-        lead: c.lead.or(Some(i)),
-        filters: c.filters || p.is_some(),
-        rows: rows_after(selectivities, p, c.rows),
+    Gathered {
+        lead: g.lead.or(Some(i)),
+        filters: g.filters || p.is_some(),
+        rows: rows_after(selectivities, p, g.rows),
     }
 }
 
-// What the candidate of a and b takes from the edges, in one walk.
-#[tactic(auto, using(definition::proofs::EdgeWalkLaws::from_start, definition::proofs::EdgeWalkLaws::from_end))]
-pub fn connect(edges: &Edges<'_>, selectivities: &[u32], a: u64, b: u64, product: f64) -> Connection
-    ensures value { Connected edges.now selectivities.now a b product result }
+// One walk over the edges, for the candidate of a and b. It keeps no list of edge numbers.
+#[tactic(auto, using(definition::proofs::EdgeWalkLaws::edge_walk_end))]
+fn walk_edges(edges: &Edges<'_>, selectivities: &[u32], a: u64, b: u64, product: f64) -> Gathered
+    ensures value { Walked edges.now selectivities.now a b product result }
     ensures lead { IfSome result.lead (λ i. i < length edges.now.left.now) }
 {
-    let mut c = Connection {
+    let mut g = Gathered {
         lead: None,
         filters: false,
         rows: product,
@@ -198,8 +197,44 @@ pub fn connect(edges: &Edges<'_>, selectivities: &[u32], a: u64, b: u64, product
     // kept: i is the lead and the predicate's place, in a list that may be shorter; zip and enumerate over the sides would still go by i
     for i in 0..edges.left.len() {
         if connects(edges.left[i], edges.right[i], a, b) {
-            c = with_edge(selectivities, i as u32, predicate_of(edges.predicate, i), c);
+            let k = i as u32;
+            g = with_edge(selectivities, k, predicate_of(edges.predicate, k), g);
         }
     }
-    c
+    g
+}
+
+// filters: whether a connecting edge has a predicate; k: the kind of the lead edge's source item.
+// kept: a kind is a number, as in rows_by_kind.
+#[tactic(auto, unfolding(definition::specs::Connection::candidate_kind))]
+fn candidate_kind(filters: bool, k: u32) -> u32
+    ensures { result ≡ candidate_kind filters k }
+{
+    match (filters, k) {
+        (false, _) => CROSS_PRODUCT,
+        (true, CROSS_PRODUCT) => INNER,
+        (true, _) => k,
+    }
+}
+
+// What the candidate of a and b takes from the edges, if one connects the two sets. By edge_walk_connection (definition EdgeWalkLaws.antt) the
+// walk finds what the definition takes from the listed edges.
+// kept: kinds and selectivities are lists of different things, each read by its own numbers.
+pub fn connect(
+    edges: &Edges<'_>,
+    kinds: &[u32],
+    selectivities: &[u32],
+    a: u64,
+    b: u64,
+    product: f64,
+) -> Option<Connection>
+    ensures { Connected edges.now kinds.now selectivities.now a b product result }
+{
+    let g = walk_edges(edges, selectivities, a, b, product);
+    let lead = g.lead?;
+    Some(Connection {
+        lead,
+        kind: candidate_kind(g.filters, at(kinds, at(edges.source, lead, 0), 0)),
+        rows: g.rows,
+    })
 }

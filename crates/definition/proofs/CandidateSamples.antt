@@ -5,10 +5,12 @@ use Rattle.std.specs.Float.{fin}
 use Rattle.std.specs.Float.Ieee.{mul, add, div, lt, of_int}
 use Rattle.nodeset.specs.Sets.{singleton}
 use Rattle.definition.specs.Question.{leaf, inner}
-use Rattle.definition.specs.Hypergraph.{connecting_from, any_predicate, selectivities_of}
+use Rattle.definition.specs.Hypergraph.{connecting_from}
 use Rattle.definition.specs.Cost.{filtered, candidate_from}
+use Rattle.definition.specs.Connection.{any_predicate, candidate_kind, selectivities_of, connection_over}
 use Rattle.definition.specs.Walk.{each}
-use Rattle.definition.specs.Search.{Entry, Leaf, Input, Pair, State, plan_at, find, replace, visit, candidate_kind, candidate, memo_after, joined, attempt, leaf_plans, leaf_entries, start}
+use Rattle.definition.specs.Search.{Entry, Leaf, Input, Pair, State, plan_at, find, replace, visit, candidate, memo_after, linked, joined, attempt}
+use Rattle.definition.specs.Search.{leaf_plans, leaf_entries, start}
 
 abbrev scan : ℕ → Leaf
 scan rows = record { rows = rows; columns = 1 }
@@ -28,7 +30,7 @@ chain rows ss plan_room memo_room limit =
 
 -- after these pairs
 unfoldable pub tried : Input → List Pair → State
-unfolding singleton connecting_from any_predicate selectivities_of filtered candidate_from find replace candidate_kind candidate memo_after joined attempt leaf_plans leaf_entries start mul add div lt of_int
+unfolding singleton connecting_from any_predicate selectivities_of connection_over filtered candidate_from find replace candidate_kind candidate memo_after linked joined attempt leaf_plans leaf_entries start mul add div lt of_int
 tried i ts = each (λ t u. attempt i t.left t.right u) ts (start i)
 
 -- after these pairs: answer, number of plans, memo

@@ -1,12 +1,10 @@
--- Document 01, 'Sample sheets': the candidates' costs, by computation. Then numbers at which another order of operations, another ceiling,
--- another rule for a kind's rows or another reading of the edges would show.
-use Rattle.std.specs.Prelude.{◌≡◌, refl, true, false, List, [], ◌∷◌, map, ℕ, ◌+◌, ◌^◌, get_or, leb, pos, negsuc, Float}
+-- Document 01, 'Sample sheets': the candidates' costs, by computation. Then numbers at which another order of operations, another ceiling or
+-- another rule for a kind's rows would show.
+use Rattle.std.specs.Prelude.{◌≡◌, refl, false, List, [], ◌∷◌, map, ℕ, ◌+◌, ◌^◌, get_or, leb, pos, negsuc, Float}
 use Rattle.std.proofs.Math.Option.{some}
 use Rattle.std.specs.Float.{fin}
 use Rattle.std.specs.Float.Ieee.{mul, add, div, lt, of_int}
-use Rattle.definition.specs.Hypergraph.{Edge, none32, connecting_from, any_predicate, selectivities_of}
 use Rattle.definition.specs.Cost.{Estimate, whole, filtered, capped, candidate_rows, candidate_cost, candidate_from}
-use Rattle.definition.specs.Connection.{connection}
 use Rattle.definition.proofs.EstimateOrderLaws.{kept}
 use Rattle.definition.specs.EstimateBounds.{JoinTree, scan, join, tree_estimate}
 
@@ -105,16 +103,3 @@ pub ceiling_last : (rows_from 501 0 0 ≡ map power (500 ∷ 0 ∷ 0 ∷ 500 ∷
     × (rows_from 0 0 501 ≡ map power (0 ∷ 0 ∷ 0 ∷ 0 ∷ 500 ∷ 500 ∷ 0 ∷ 0 ∷ 0 ∷ []))
 unfolding lt
 ceiling_last = (refl, refl, refl)
-
--- an edge between leaves 0 and 1, with this predicate
-abbrev edge : ℕ → Edge
-edge p = record { left = 1; right = 2; predicate = p; source = 0; type = 0 }
-
--- a predicate that lies on two connecting edges counts twice; the lead edge is the lowest; an edge may have no predicate
-pub on_two_edges : connection (edge none32 ∷ edge 0 ∷ edge 0 ∷ []) (32768 ∷ []) 2 1 (whole 32) ≡ record { lead = 0; filters = true; rows = fin false 1 (pos 3) }
-unfolding connecting_from any_predicate selectivities_of filtered mul div of_int
-on_two_edges = refl
-
-pub no_predicate : connection (edge none32 ∷ []) (32768 ∷ []) 1 2 (whole 32) ≡ record { lead = 0; filters = false; rows = fin false 1 (pos 5) }
-unfolding connecting_from any_predicate selectivities_of filtered of_int
-no_predicate = refl

@@ -8,12 +8,14 @@ use Rattle.definition.specs.Lists.{tabulate, concat_map, member}
 use Rattle.definition.specs.Question.{leaf, leaf_count, ends_with_one}
 use Rattle.definition.specs.Sheet.{word, first_failing, question_of, question_answer, sheet_answer}
 use Rattle.definition.specs.Tables.{type_of, assoc, l_asscom, r_asscom}
-use Rattle.definition.specs.Hypergraph.{Edge, none32, has_edge, connecting_from, beyond, neighborhood, any_predicate, selectivities_of}
+use Rattle.definition.specs.Hypergraph.{Edge, none32, has_edge, connecting_from, beyond, neighborhood}
+use Rattle.definition.specs.Connection.{any_predicate, candidate_kind, selectivities_of, connection_over}
 use Rattle.definition.specs.Connected.{one_class, met, merge, merges, round, rounds, connected}
 use Rattle.definition.specs.Edges.{build_hypergraph, build_from, build_item, join_item, cross_item, leaf_item, inner_edges, other_edges, sides_for, widen, side_set, holders, holder, edge_count}
 use Rattle.definition.specs.Cost.{whole, filtered, candidate_from}
 use Rattle.definition.specs.Walk.{enumerate_cmp_rec, emit_csg, enumerate_csg_rec, solve_from}
-use Rattle.definition.specs.Search.{Plan, Entry, Pair, find, replace, visit, candidate_kind, candidate, memo_after, joined, attempt, leaf_plans, leaf_entries, start, search}
+use Rattle.definition.specs.Search.{Plan, Entry, Pair, find, replace, visit, candidate, memo_after}
+use Rattle.definition.specs.Search.{linked, joined, attempt, leaf_plans, leaf_entries, start, search}
 use Rattle.definition.specs.Call.{Rooms, Outcome, default_limit, refused_with, leaves_of, searched, call}
 
 pub record Row : Type 0 where
@@ -27,7 +29,7 @@ bytes w = (w % 256) ∷ (w / 256 % 256) ∷ (w / 65536 % 256) ∷ (w / 16777216)
 
 -- a call on the sheet of these words, with all that it takes to compute it
 unfoldable pub computed : List ℕ → Rooms → ℕ → Outcome
-unfolding count_trailing_zeros bit singleton lowest all_below up_to_lowest doubled subsets_of non_empty_subsets singletons_below singletons tabulate concat_map member leaf_count ends_with_one word first_failing question_of question_answer sheet_answer type_of assoc l_asscom r_asscom has_edge connecting_from beyond neighborhood any_predicate selectivities_of one_class met merge merges round rounds connected build_hypergraph build_from build_item join_item cross_item leaf_item inner_edges other_edges sides_for widen side_set holders holder edge_count filtered candidate_from enumerate_cmp_rec emit_csg enumerate_csg_rec solve_from find replace visit candidate_kind candidate memo_after joined attempt leaf_plans leaf_entries start search leaves_of searched refused_with call mul add div lt of_int
+unfolding count_trailing_zeros bit singleton lowest all_below up_to_lowest doubled subsets_of non_empty_subsets singletons_below singletons tabulate concat_map member leaf_count ends_with_one word first_failing question_of question_answer sheet_answer type_of assoc l_asscom r_asscom has_edge connecting_from beyond neighborhood any_predicate selectivities_of connection_over one_class met merge merges round rounds connected build_hypergraph build_from build_item join_item cross_item leaf_item inner_edges other_edges sides_for widen side_set holders holder edge_count filtered candidate_from enumerate_cmp_rec emit_csg enumerate_csg_rec solve_from find replace visit candidate_kind candidate memo_after linked joined attempt leaf_plans leaf_entries start search leaves_of searched refused_with call mul add div lt of_int
 computed ws rooms limit = call (concat_map bytes ws) rooms limit
 
 abbrev outcome : Row → Outcome

@@ -1,107 +1,114 @@
--- A walk over the edges that keeps no list of edge numbers gives what Connection.antt defines over the listed ones. Assumes nothing.
-use Rattle.std.specs.Prelude.{◌≡◌, refl, Bool, true, false, ◌||◌, not, List, [], ◌∷◌, ℕ, suc, ◌+◌, ◌≤◌, ◌<◌, length, get_or, drop, eqb, Float}
+-- The walk over the edges that keeps no list of edge numbers gives what Connection.antt defines over the listed ones. Assumes nothing.
+use Rattle.std.specs.Prelude.{◌≡◌, refl, Bool, true, false, ◌||◌, List, [], ◌∷◌, ℕ, suc, ◌+◌, ◌≤◌, ◌<◌, get_or, drop, Float}
 use Rattle.std.proofs.Math.Path.{sym, ap}
-use Rattle.std.proofs.Common.{ap₂, ◌∙◌, arith, eqb-true, ne_eqb}
+use Rattle.std.proofs.Math.Option.{Option, none, some}
+use Rattle.std.proofs.Common.{◌∙◌, arith}
 use Rattle.std.proofs.Math.Bool.{or-false, or_assoc}
 use Rattle.std.proofs.Math.Numerals.{add-one}
-use Rattle.std.specs.Float.{binary64}
-use Rattle.std.specs.Float.Ieee.{mul}
-use Rattle.definition.specs.Hypergraph.{Edge, no_edge, none32, connects, connecting, connecting_from, any_predicate, lead_of, selectivities_of}
-use Rattle.definition.specs.Cost.{fraction, filtered}
-use Rattle.definition.specs.Connection.{Connection, connection_over, connection}
+use Rattle.definition.specs.Hypergraph.{Edge, no_edge, connects, has_predicate, connecting, connecting_from}
+use Rattle.definition.specs.Cost.{filtered}
+use Rattle.definition.specs.Connection.{Connection, any_predicate, selectivities_of, connection_over, connection}
+use Rattle.definition.specs.EdgeWalk.{Gathered, gathered, lead_after, rows_after, gathered_after, edge_walk_from, edge_walk, connection_gathered}
 use Rattle.definition.specs.EdgeView.{edge_at, edges_of}
-use Rattle.definition.specs.EdgeWalkLaws.{made, lead_after, rows_after, with_edge}
-use Rattle.definition.proofs.EdgeViewLaws.{edges_at, edges_end, edges_get}
+use Rattle.definition.specs.Kept.{EdgeBetween}
+use Rattle.definition.proofs.TakenLaws.{connection_there}
+use Rattle.definition.proofs.EdgeViewLaws.{edges_at, edges_end}
 
--- what was found so far, and the connecting edges yet to come
-unfoldable pub onward : List Edge → List ℕ → List ℕ → Connection → Connection
-onward es ss cs c = made (lead_after c.lead (lead_of cs)) (c.filters || any_predicate es cs) (filtered c.rows (selectivities_of es ss cs))
+-- ---- what was gathered so far, and the connecting edges cs yet to come
 
-pub onward-start : (es : List Edge) (ss cs : List ℕ) (x : Float) → onward es ss cs (made none32 false x) ≡ connection_over es ss cs x
-unfolding onward
-onward-start es ss cs x = refl
+abbrev lead_with : Option ℕ → List ℕ → Option ℕ
+lead_with l [] = l
+lead_with l (c ∷ cs) = lead_after l c
 
-lead_none : (l : ℕ) → lead_after l none32 ≡ l
-lead_none l = go (eqb l none32) refl
+-- a lead that is there is not replaced by the edges yet to come
+lead_stays : (l : Option ℕ) (i : ℕ) (cs : List ℕ) → lead_with (lead_after l i) cs ≡ lead_after l i
+lead_stays none i [] = refl
+lead_stays none i (c ∷ cs) = refl
+lead_stays (some l) i [] = refl
+lead_stays (some l) i (c ∷ cs) = refl
+
+module _ (es : List Edge) (ss : List ℕ) where
+  abbrev with_listed : List ℕ → Gathered → Gathered
+  with_listed cs g = gathered (lead_with g.lead cs) (g.filters || any_predicate es cs) (filtered g.rows (selectivities_of es ss cs))
+
+  with_none : (g : Gathered) → with_listed [] g ≡ g
+  unfolding any_predicate selectivities_of filtered
+  with_none g = ap (λ (f : Bool). gathered g.lead f g.rows) (or-false g.filters)
+
+  rows_listed : (cs : List ℕ) (i : ℕ) (x : Float)
+      → filtered (rows_after ss (get_or es i no_edge) x) (selectivities_of es ss cs) ≡ filtered x (selectivities_of es ss (i ∷ cs))
+  unfolding rows_after selectivities_of filtered
+  rows_listed cs i x = go (has_predicate (get_or es i no_edge)) refl
+    where
+      go : (b : Bool) → has_predicate (get_or es i no_edge) ≡ b
+          → filtered (rows_after ss (get_or es i no_edge) x) (selectivities_of es ss cs) ≡ filtered x (selectivities_of es ss (i ∷ cs))
+      go true e = rw (e, rows_after, selectivities_of, filtered)
+      go false e = rw (e, rows_after, selectivities_of)
+
+  one_listed : (cs : List ℕ) (i : ℕ) (g : Gathered) → with_listed cs (gathered_after ss i (get_or es i no_edge) g) ≡ with_listed (i ∷ cs) g
+  unfolding gathered_after any_predicate
+  one_listed cs i g = rw (lead_stays g.lead i cs, or_assoc, rows_listed cs i g.rows)
+
+  -- the walk over the edges from number i on
+  walk_listed : (a b i : ℕ) (rest : List Edge) → ((k : ℕ) → get_or es (i + k) no_edge ≡ get_or rest k no_edge) → (g : Gathered)
+      → edge_walk_from ss a b i rest g ≡ with_listed (connecting_from i rest a b) g
+  unfolding edge_walk_from connecting_from
+  walk_listed a b i [] same g = sym (with_none g)
+  walk_listed a b i (e ∷ rest) same g =
+      let next : (k : ℕ) → get_or es (suc i + k) no_edge ≡ get_or rest k no_edge =
+      λ k. let z : suc i + k ≡ i + suc k = omega arith in ap (λ (j : ℕ). get_or es j no_edge) z ∙ same (suc k) in
+      let here : get_or es i no_edge ≡ e = let z : i ≡ i + 0 = omega arith in ap (λ (j : ℕ). get_or es j no_edge) z ∙ same 0 in
+      go (connects a b e) here (walk_listed a b (suc i) rest next)
+    where
+      go : (t : Bool) → get_or es i no_edge ≡ e
+          → ((x : Gathered) → edge_walk_from ss a b (suc i) rest x ≡ with_listed (connecting_from (suc i) rest a b) x)
+          → edge_walk_from ss a b (suc i) rest (elim t [ true ↦ gathered_after ss i e g | false ↦ g ])
+          ≡ with_listed (elim t [ true ↦ i ∷ connecting_from (suc i) rest a b | false ↦ connecting_from (suc i) rest a b ]) g
+      go true here rest_walked =
+          rest_walked (gathered_after ss i e g)
+          ∙ ap (λ (x : Edge). with_listed (connecting_from (suc i) rest a b) (gathered_after ss i x g)) (sym here)
+          ∙ one_listed (connecting_from (suc i) rest a b) i g
+      go false here rest_walked = rest_walked g
+
+  walk_all : (a b : ℕ) (p : Float) → edge_walk es ss a b p ≡ with_listed (connecting es a b) (gathered none false p)
+  walk_all a b p =
+      let same : (k : ℕ) → get_or es (0 + k) no_edge ≡ get_or es k no_edge = λ k. let z : 0 + k ≡ k = omega arith in ap (λ (j : ℕ). get_or es j no_edge) z in
+      walk_listed a b 0 es same (gathered none false p)
+
+-- Request 2026-03: "for any edges and any two sets that one connects, the walk's kind, lead edge and rows are proved equal to it." For any
+-- selectivities and kinds too; sides may be empty or overlap.
+pub edge_walk_connection : (es : List Edge) (ks ss : List ℕ) (a b : ℕ) (p : Float)
+    → connection_gathered es ks (edge_walk es ss a b p) ≡ connection es ks ss a b p
+unfolding connection_over
+edge_walk_connection es ks ss a b p = ap (connection_gathered es ks) (walk_all es ss a b p) ∙ listed (connecting es a b)
   where
-    go : (b : Bool) → eqb l none32 ≡ b → lead_after l none32 ≡ l
-    go true e = rw (e, lead_after) (sym (eqb-true l none32 e))
-    go false e = rw (e, lead_after)
+    listed : (cs : List ℕ) → connection_gathered es ks (with_listed es ss cs (gathered none false p)) ≡ connection_over es ks ss cs p
+    listed [] = refl
+    listed (c ∷ cs) = refl
 
--- the lowest edge stays the lead
-lead_again : (l i j : ℕ) → i < none32 → lead_after (lead_after l i) j ≡ lead_after l i
-lead_again l i j h = go (eqb l none32) refl
-  where
-    go : (b : Bool) → eqb l none32 ≡ b → lead_after (lead_after l i) j ≡ lead_after l i
-    go true e =
-        let k : lead_after l i ≡ i = rw (e, lead_after) in
-        let far : eqb i none32 ≡ false = ne_eqb i none32 (λ z. omega arith) in
-        rw k (rw (far, lead_after))
-    go false e = let k : lead_after l i ≡ l = rw (e, lead_after) in rw k (rw (e, lead_after))
-
-pub onward_end : (es : List Edge) (ss : List ℕ) (c : Connection) → onward es ss [] c ≡ c
-unfolding onward any_predicate selectivities_of filtered
-onward_end es ss c = ap₂ (λ (l : ℕ) (f : Bool). made l f c.rows) (lead_none c.lead) (or-false c.filters)
-
-rows-after : (es : List Edge) (ss cs : List ℕ) (i : ℕ) (x : Float)
-    → filtered (rows_after ss (get_or es i no_edge).predicate x) (selectivities_of es ss cs) ≡ filtered x (selectivities_of es ss (i ∷ cs))
-unfolding rows_after selectivities_of filtered
-rows-after es ss cs i x = go (eqb (get_or es i no_edge).predicate none32) refl
-  where
-    go : (b : Bool) → eqb (get_or es i no_edge).predicate none32 ≡ b
-        → filtered (rows_after ss (get_or es i no_edge).predicate x) (selectivities_of es ss cs) ≡ filtered x (selectivities_of es ss (i ∷ cs))
-    go true e = rw (e, rows_after, selectivities_of)
-    go false e = rw (e, rows_after, selectivities_of)
-
-pub onward-edge : (es : List Edge) (ss cs : List ℕ) (i : ℕ) (c : Connection) → i < none32
-    → onward es ss cs (with_edge ss i (get_or es i no_edge).predicate c) ≡ onward es ss (i ∷ cs) c
-unfolding onward with_edge any_predicate
-onward-edge es ss cs i c h = rw (lead_again c.lead i (lead_of cs) h, or_assoc, rows-after es ss cs i c.rows)
+-- so where one connects them, both give something, and the same lead edge, kind and rows
+pub edge_walk_connected : (es : List Edge) (ks ss : List ℕ) (a b : ℕ) (p : Float) → EdgeBetween es a b
+    → (t : Connection) × (connection es ks ss a b p ≡ some t) × (connection_gathered es ks (edge_walk es ss a b p) ≡ some t)
+edge_walk_connected es ks ss a b p x =
+    let t = connection_there es ks ss a b p x in
+    (t.0, t.1, edge_walk_connection es ks ss a b p ∙ t.1)
 
 -- ---- the edges of parallel lists, from number i on
 
 module _ (n : ℕ) (l r p ss : List ℕ) (a b : ℕ) (s t : List ℕ) where
-  abbrev pub from : ℕ → Connection → Connection
-  from i c = onward (edges_of n l r p s t) ss (connecting_from i (drop i (edges_of n l r p s t)) a b) c
+  abbrev pub edge_walk_on : ℕ → Gathered → Gathered
+  edge_walk_on i g = edge_walk_from ss a b i (drop i (edges_of n l r p s t)) g
 
-  pub from_start : (x : Float) → from 0 (made none32 false x) ≡ connection (edges_of n l r p s t) ss a b x
-  from_start x = onward-start (edges_of n l r p s t) ss (connecting (edges_of n l r p s t) a b) x
-
-  pub from_end : (i : ℕ) (c : Connection) → n ≤ i → from i c ≡ c
-  unfolding connecting_from
-  from_end i c h = rw (edges_end n l r p s t i h) (onward_end (edges_of n l r p s t) ss c)
+  pub edge_walk_end : (i : ℕ) (g : Gathered) → n ≤ i → edge_walk_on i g ≡ g
+  unfolding edge_walk_from
+  edge_walk_end i g h = rw (edges_end n l r p s t i h)
 
   -- an edge that connects, and one that does not
-  pub from-edge : (i : ℕ) (c : Connection) → i < n → n ≤ none32 → connects a b (edge_at l r p s t i) ≡ true
-      → from (i + 1) (with_edge ss i (get_or p i 0) c) ≡ from i c
-  unfolding connecting_from
-  from-edge i c h k e =
-      ap (λ (q : ℕ). from (i + 1) (with_edge ss i q c)) (sym (ap (λ (x : Edge). x.predicate) (edges_get n l r p s t i no_edge h)))
-      ∙ onward-edge (edges_of n l r p s t) ss (connecting_from (i + 1) (drop (i + 1) (edges_of n l r p s t)) a b) i c (omega arith)
-      ∙ sym (rw (edges_at n l r p s t i h, e, connecting_from, add-one i))
+  pub edge_walk_connects : (i : ℕ) (g : Gathered) → i < n → connects a b (edge_at l r p s t i) ≡ true
+      → edge_walk_on (i + 1) (gathered_after ss i (edge_at l r p s t i) g) ≡ edge_walk_on i g
+  unfolding edge_walk_from
+  edge_walk_connects i g h e = sym (rw (edges_at n l r p s t i h, e, edge_walk_from, add-one i))
 
-  pub from_other : (i : ℕ) (c : Connection) → i < n → connects a b (edge_at l r p s t i) ≡ false → from (i + 1) c ≡ from i c
-  unfolding connecting_from
-  from_other i c h e = sym (rw (edges_at n l r p s t i h, e, connecting_from, add-one i))
-
--- ---- the lead edge is one of the edges, so its number tells whether any connects
-
-lead_below : (i : ℕ) (es : List Edge) (a b : ℕ) {c : ℕ} {cs : List ℕ} → connecting_from i es a b ≡ c ∷ cs → c < i + length es
-unfolding connecting_from
-lead_below i [] a b h = let z : ◌≡◌ {A = ℕ} 0 1 = cc in absurd (omega arith)
-lead_below i (e ∷ es) a b {c} {cs} h = go (connects a b e) h (λ q. lead_below (suc i) es a b q)
-  where
-    go : (t : Bool) → elim t [ true ↦ i ∷ connecting_from (suc i) es a b | false ↦ connecting_from (suc i) es a b ] ≡ c ∷ cs
-        → (connecting_from (suc i) es a b ≡ c ∷ cs → c < suc i + length es) → c < i + suc (length es)
-    go true q f = let w : i ≡ c = cc in omega arith
-    go false q f = let w = f q in omega arith
-
-pub lead_is_edge : (es : List Edge) (a b c : ℕ) (cs : List ℕ) → connecting es a b ≡ c ∷ cs → lead_of (connecting es a b) < length es
-lead_is_edge es a b c cs h = let w = lead_below 0 es a b h in omega (arith, ap lead_of h)
-
-pub no_lead : (es : List Edge) (a b : ℕ) → length es ≤ none32 → lead_of (connecting es a b) ≡ none32 → connecting es a b ≡ []
-no_lead es a b h k = go (connecting es a b) refl
-  where
-    go : (cs : List ℕ) → connecting es a b ≡ cs → connecting es a b ≡ []
-    go [] e = e
-    go (c ∷ cs) e = let w = lead_is_edge es a b c cs e in absurd (omega arith)
+  pub edge_walk_passes : (i : ℕ) (g : Gathered) → i < n → connects a b (edge_at l r p s t i) ≡ false → edge_walk_on (i + 1) g ≡ edge_walk_on i g
+  unfolding edge_walk_from
+  edge_walk_passes i g h e = sym (rw (edges_at n l r p s t i h, e, edge_walk_from, add-one i))

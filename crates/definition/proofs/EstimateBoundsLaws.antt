@@ -15,11 +15,12 @@ use Rattle.nodeset.specs.SubsetLaws.{All}
 use Rattle.definition.proofs.AllLaws.{all_get}
 use Rattle.definition.proofs.FloatLaws.{by_form, mul_is, add_is, value_sign, value_num}
 use Rattle.definition.specs.Cost.{Estimate, whole, full, ceiling, leaf_estimate, product, fraction, filtered, capped, lesser, greater}
-use Rattle.definition.specs.Cost.{RowRule, inner_rows, row_rules, rows_by_kind, candidate_rows, candidate_from, candidate_estimate}
-use Rattle.definition.specs.Hypergraph.{Edge, no_edge, has_predicate, selectivities_of}
+use Rattle.definition.specs.Cost.{RowRule, inner_rows, row_rules, rows_by_kind, candidate_rows, candidate_from}
+use Rattle.definition.specs.Hypergraph.{Edge, no_edge, has_predicate}
+use Rattle.definition.specs.Connection.{selectivities_of}
 use Rattle.definition.specs.EstimateOrder.{NonNegative}
 use Rattle.definition.proofs.EstimateOrderLaws.{not_less→at_least}
-use Rattle.definition.specs.EstimateBounds.{AtMost, Bounded, Selectivities, JoinTree, scan, join, tree_estimate, leaves, Legal}
+use Rattle.definition.specs.EstimateBounds.{AtMost, Bounded, Selectivities, JoinTree, scan, join, join_estimate, tree_estimate, leaves, Legal}
 
 -- ---- the sign of a rounded value
 Clear : Float → Type 0
@@ -241,7 +242,7 @@ module _ (kind : ℕ) (l r : Estimate) (ss : List ℕ) (a b : ℕ) (hl : Bounded
       (filtered-at_most (product l r) ss (2 ^ 1000) (exact_pow 1000 (lit≤ tt)) product-at_most f).sign
 
   -- p plus rows, plus left cost, plus right cost
-  pub candidate_bounded : Bounded (a + b) (candidate_estimate kind l r ss)
+  pub candidate_bounded : Bounded (a + b) (join_estimate kind l r ss)
   unfolding candidate_from
   candidate_bounded =
       let p = product l r in

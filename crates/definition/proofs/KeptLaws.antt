@@ -14,13 +14,14 @@ use Rattle.std.proofs.lemmas.Bool.{eqb-false}
 use Rattle.nodeset.specs.Sets.{bit, singleton}
 use Rattle.nodeset.specs.SetLaws.{Apart, bit-lt, bit-or, bit_one, bit_one_other, bit_one_cases, bit_empty, singleton_is, singleton_none}
 use Rattle.nodeset.specs.SubsetLaws.{All}
-use Rattle.definition.specs.Hypergraph.{Edge, connects, connecting_from}
+use Rattle.definition.specs.Hypergraph.{connecting}
+use Rattle.definition.proofs.TakenLaws.{taken_from}
 use Rattle.definition.proofs.EstimateOrderLaws.{kept, earliest_unique, KeepsEarliest, kept_earliest}
 use Rattle.definition.specs.EstimateBounds.{Bounded}
 use Rattle.definition.proofs.EstimateBoundsLaws.{leaf_bounded, candidate_bounded, selectivities_of_lem}
 use Rattle.definition.proofs.Depth.{ones_or}
-use Rattle.definition.specs.Search.{Leaf, Plan, Pair, Input, absent, leaf_plans}
-use Rattle.definition.specs.Kept.{plan_of, pair_of, estimate_of, union, made_for, Several, KeptAfter, single, larger, EdgeBetween, Candidates, Meets, occurs, JoinsOnce, EdgeAtEachJoin}
+use Rattle.definition.specs.Search.{plan_of, Leaf, Plan, Pair, Input, absent, leaf_plans}
+use Rattle.definition.specs.Kept.{pair_of, estimate_of, union, made_for, Several, KeptAfter, single, larger, Candidates, Meets, occurs, JoinsOnce, EdgeAtEachJoin}
 use Rattle.definition.specs.PlanRule.{WithinLimits, Finite, pair_in, pairs_in}
 
 -- ---- sets
@@ -79,20 +80,6 @@ unfolding leaf_plans
 leaf_plans_bounded n [] m h w = absurd (not-suc-le-zero h)
 leaf_plans_bounded n (l ∷ ls) zero h w = leaf_bounded l.rows l.columns w.0.0 w.0.1
 leaf_plans_bounded n (l ∷ ls) (suc m) h w = leaf_plans_bounded (suc n) ls m (le_of_suc-le-suc h) w.1
-
--- ---- edges
-
-pub connecting-edge : (n : ℕ) (es : List Edge) (a b c : ℕ) (cs : List ℕ) → connecting_from n es a b ≡ c ∷ cs → EdgeBetween es a b
-unfolding connecting_from
-connecting-edge n [] a b c cs e = let z : ◌≡◌ {A = ℕ} 0 1 = cc in absurd (omega arith)
-connecting-edge n (x ∷ es) a b c cs e = go (connects a b x) refl e (connecting-edge (suc n) es a b c cs)
-  where
-    go : (t : Bool) → connects a b x ≡ t → elim t [ true ↦ n ∷ connecting_from (suc n) es a b | false ↦ connecting_from (suc n) es a b ] ≡ c ∷ cs
-        → (connecting_from (suc n) es a b ≡ c ∷ cs → EdgeBetween es a b) → EdgeBetween (x ∷ es) a b
-    go true d e r = record { edge = 0; there = omega arith; between = d }
-    go false d e r =
-        let f = r e in
-        record { edge = suc f.edge; there = omega (arith, f.there); between = f.between }
 
 -- ---- one plan at most is kept for a set
 
@@ -237,7 +224,9 @@ module _ (i : Input) (ts : List Pair) (ps : List Plan) (c : Candidates i ts ps) 
           let e : q.set ≡ bit_or l.set r.set = (c.made k h).set ∙ ap₂ bit_or (sym (left_set k h)) (sym (right_set k h)) in
           let small : bit_or l.set r.set < 2 ^ 64 = or_lt 64 l.set r.set x.0 y.0 in
           let o = ones_or l.set r.set d in
-          rw (e, o, (c.made k h).estimate)
+          let t = pair_of ts k in
+          let taken = taken_from i.edges i.kinds i.selectivities _ (connecting i.edges t.left t.right) _ (c.made k h).connection in
+          rw (e, o, (c.made k h).estimate, taken.rows)
           (small, candidate_bounded q.kind l.estimate r.estimate _ (ones l.set) (ones r.set) x.1 y.1 (selectivities_of_lem i.edges i.selectivities _ w.selectivities) (omega (arith, ones-le 64 (bit_or l.set r.set) small, o)))
 
   pub all_finite : WithinLimits i → (p : ℕ) → p < length ps → Finite (plan_of ps p)

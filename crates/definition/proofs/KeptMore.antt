@@ -6,8 +6,8 @@ use Rattle.std.proofs.lemmas.List.{get_or_at, take-append-le}
 use Rattle.std.proofs.Math.Seq.{get_or-append_seam}
 use Rattle.definition.specs.EstimateOrder.{Earliest, AtLeast, MoreThan}
 use Rattle.definition.proofs.EstimateOrderLaws.{earliest_same, earliest_skip, earliest_keep, earliest_last, earliest_replace}
-use Rattle.definition.specs.Search.{Plan, Pair, Input, absent}
-use Rattle.definition.specs.Kept.{plan_of, pair_of, estimate_of, union, made_for, Several, KeptAfter, single, larger, Qualifies, Made, Candidates}
+use Rattle.definition.specs.Search.{plan_of, Plan, Pair, Input, absent}
+use Rattle.definition.specs.Kept.{pair_of, estimate_of, union, made_for, Several, KeptAfter, single, larger, Qualifies, Made, Candidates}
 use Rattle.definition.proofs.KeptLaws.{kept_below, single_not_several}
 
 pub length_more : {A : Type 0} (l : List A) (x : A) → length (l ++ (x ∷ [])) ≡ suc (length l)
@@ -100,12 +100,15 @@ module _ (i : Input) (ts : List Pair) (ps : List Plan) (c : Candidates i ts ps) 
       let size = c.count in
       let x = kept_below h.left in
       let y = kept_below h.right in
+      let old_left = old p.left (omega arith) in
+      let old_right = old p.right (omega arith) in
       record {
-        others = m.others;
-        lead = m.lead;
+        taken = m.taken;
+        connection = rw (old_left, old_right) m.connection;
         set = m.set;
+        lead = m.lead;
         kind = m.kind;
-        estimate = rw (old p.left (omega arith), old p.right (omega arith)) m.estimate;
+        estimate = rw (old_left, old_right) m.estimate;
       }
 
   -- a fact of each candidate and of the one more

@@ -1,13 +1,12 @@
 -- The search meets the plan rule. What any candidates of disjoint sets keep is stated for `attempt`; of the search's own walk only this is
 -- used, that its pairs have no leaf in common. Assumes nothing.
-use Rattle.std.specs.Prelude.{◌≡◌, Bool, true, false, ◌||◌, length, eqb}
+use Rattle.std.specs.Prelude.{◌≡◌, Bool, true, false, length, eqb}
 use Rattle.std.proofs.Math.Path.{refl, ap}
 use Rattle.std.proofs.Common.{sym, ap₂, ◌∙◌, subst, subst₂, true≢false, le_refl, le_of_eq, not-suc-le-zero, suc-ne-zero, arith, eqb-true}
 use mathlib.Core.List.{List, [], ◌∷◌, ◌++◌, map, map-append}
 use Rattle.std.proofs.Math.Option.{Option, none, some}
 use Prim.Native.Nat.{ℕ, zero, suc, ◌<◌}
 use Rattle.std.proofs.Math.Seq.{take_all}
-use Rattle.std.proofs.Math.Dec.{ltb}
 use Rattle.std.specs.Int.Bits.{bit_or}
 use Rattle.std.proofs.lemmas.Bool.{eqb-false}
 use Rattle.nodeset.specs.Sets.{singleton, all_below}
@@ -15,16 +14,19 @@ use Rattle.nodeset.specs.SetLaws.{Apart}
 use Rattle.nodeset.specs.SubsetLaws.{All}
 use Rattle.definition.specs.Answers.{plans_full, memo_full, visits_spent}
 use Rattle.definition.specs.Lists.{tabulate, member}
-use Rattle.definition.specs.Hypergraph.{connecting}
 use Rattle.definition.specs.Cost.{cheaper}
+use Rattle.definition.specs.Connection.{Connection}
+use Rattle.definition.proofs.TakenLaws.{lowest_between, lead_lowest}
+use Rattle.definition.proofs.StepLaws.{visit_keeps, attempt_keeps}
 use Rattle.definition.proofs.EstimateOrderLaws.{cheaper→costs_less, not_cheaper→at_least}
 use Rattle.definition.specs.Walk.{each}
 use Rattle.definition.proofs.WalkLaws.{solve_keeps}
-use Rattle.definition.specs.Search.{Plan, Pair, Input, State, find, kept, plan_at, visit, added, joined, candidate, attempt, leaf_plans, start, search, complete, ending, chosen_plan}
+use Rattle.definition.specs.Search.{Plan, Pair, Input, State, find, kept, plan_at, visit, added, connection_for, candidate, attempt}
+use Rattle.definition.specs.Search.{leaf_plans, start, search, complete, ending, chosen_plan}
 use Rattle.definition.specs.Call.{searched}
 use Rattle.definition.specs.Kept.{union, made_for, Several, KeptAfter, single, larger, Qualifies, Made, Candidates}
 use Rattle.definition.specs.PlanRule.{WithinLimits, entry_of, first_sets, MemoHolds, WellKept, Finite, PlanRule, pairs_in}
-use Rattle.definition.proofs.KeptLaws.{single_not_several, connecting-edge, kept_below, kept_unique, kept_set, joins_once, edge-at-each-join, all_finite, pair_several, read_back_lem}
+use Rattle.definition.proofs.KeptLaws.{single_not_several, kept_below, kept_unique, kept_set, joins_once, edge-at-each-join, all_finite, pair_several, read_back_lem}
 use Rattle.definition.proofs.KeptMore.{length_more, pair_new, plan_new, kept_other, for_other, kept_first, kept-cheaper, kept_dearer, candidates_more}
 use Rattle.definition.proofs.MemoLaws.{sets_of, some_inj, none≢some, winner, memo_after_same, memo_after_other, find-member, sets-memo_after, leaf_plans-length, leaf_found, leaf_missed}
 use Rattle.definition.proofs.MemoOrder.{first_more, Distinct, entries_once, find_at, find_position, leaf-sets, leaf_first, order_distinct}
@@ -48,24 +50,26 @@ attempts i = each (λ (t : Pair) (st : State). attempt i t.left t.right st)
 module _ (i : Input) (limits : WithinLimits i) where
   -- ---- one candidate more
 
-  module _ (st : State) (v : Ruled i st) (a b : ℕ) (d : Apart a b) (l r c : ℕ) (cs : List ℕ)
-      (hl : find st.memo a ≡ some l) (hr : find st.memo b ≡ some r) (hc : connecting i.edges a b ≡ c ∷ cs) where
+  module _ (st : State) (v : Ruled i st) (a b : ℕ) (d : Apart a b) (l r : ℕ) (c : Connection)
+      (hl : find st.memo a ≡ some l) (hr : find st.memo b ≡ some r) (hc : connection_for i st.plans a b l r ≡ some c) where
     abbrev pair : Pair
     pair = record { left = a; right = b }
 
     abbrev new : Plan
-    new = candidate i st a b l r c cs
+    new = candidate st a b l r c
 
     abbrev more : State
     more = added st a b new
 
     qualifies : Qualifies i.edges (length i.leaves) st.tried st.plans (length st.tried) pair new
     unfolding candidate
-    qualifies = record { apart = d; left = v.holds a l hl; right = v.holds b r hr; edge = connecting-edge 0 i.edges a b c cs hc }
+    qualifies =
+        let lead = lead_lowest i.edges i.kinds i.selectivities a b _ c hc in
+        record { apart = d; left = v.holds a l hl; right = v.holds b r hr; edge = lowest_between lead }
 
     made : Made i st.plans pair new
     unfolding candidate
-    made = record { others = cs; lead = hc; set = refl; kind = refl; estimate = refl }
+    made = record { taken = c; connection = hc; set = refl; lead = refl; kind = refl; estimate = refl }
 
     candidates : Candidates i (st.tried ++ (pair ∷ [])) (st.plans ++ (new ∷ []))
     candidates = candidates_more i st.tried st.plans v.candidates pair new qualifies made
@@ -158,32 +162,14 @@ module _ (i : Input) (limits : WithinLimits i) where
       → Ruled i (record { tried = st.tried; plans = st.plans; memo = st.memo; visits = visits; stop = stop })
   same_ruled st visits stop v = record { candidates = v.candidates; holds = v.holds; no_leaf = v.no_leaf; no_candidate = v.no_candidate; order = v.order }
 
-  either : (x : Bool) {s t : State} → Ruled i s → Ruled i t → Ruled i (elim x [ true ↦ s | false ↦ t ])
-  either true p q = p
-  either false p q = q
-
   pub visit_ruled : (st : State) → Ruled i st → Ruled i (visit i st)
-  unfolding visit
-  visit_ruled st v =
-      either (eqb st.stop 0)
-      (either (ltb st.visits i.limit) (same_ruled st (suc st.visits) 0 v) (same_ruled st st.visits visits_spent v)) v
-
-  joined_ruled : (st : State) (a b : ℕ) (o u : Option ℕ) (cs : List ℕ) → Ruled i st → Apart a b → find st.memo a ≡ o → find st.memo b ≡ u
-      → connecting i.edges a b ≡ cs → Ruled i (joined i st a b o u cs)
-  unfolding joined
-  joined_ruled st a b none u cs v d e f g = v
-  joined_ruled st a b (some l) none cs v d e f g = v
-  joined_ruled st a b (some l) (some r) [] v d e f g = v
-  joined_ruled st a b (some l) (some r) (c ∷ cs) v d e f g =
-      either (ltb (length st.plans) i.plan_room)
-      (either (kept st (bit_or a b) || ltb (length st.memo) i.memo_room) (added_ruled st v a b d l r c cs e f g) (same_ruled st st.visits memo_full v))
-      (same_ruled st st.visits plans_full v)
+  visit_ruled st v = visit_keeps i (Ruled i) st v (same_ruled st (suc st.visits) 0 v) (same_ruled st st.visits visits_spent v)
 
   -- any two sets without a leaf in common may be tried
   pub attempt_ruled : (a b : ℕ) → Apart a b → (st : State) → Ruled i st → Ruled i (attempt i a b st)
-  unfolding attempt
   attempt_ruled a b d st v =
-      either (eqb st.stop 0) (joined_ruled st a b (find st.memo a) (find st.memo b) (connecting i.edges a b) v d refl refl refl) v
+      attempt_keeps i (Ruled i) st v a b (same_ruled st st.visits plans_full v) (same_ruled st st.visits memo_full v)
+      (λ l r c x. added_ruled st v a b d l r c x.left x.right x.connection)
 
   -- ---- the start
 

@@ -3,6 +3,7 @@ pub mod SheetSamples
 pub mod CandidateOrder
 pub mod CandidateSamples
 pub mod CheapestSamples
+pub mod ConnectionSamples
 pub mod CostSamples
 pub mod DocumentSamples
 pub mod KeptSamples
@@ -17,10 +18,12 @@ pub mod SheetLaws
 pub mod EdgeViewLaws
 pub mod Settled
 pub mod FloatLaws
+pub mod TakenLaws
 pub mod EdgeWalkLaws
 pub mod EstimateOrderLaws
 pub mod EstimateBoundsLaws
 pub mod WalkLaws
+pub mod StepLaws
 pub mod StopLaws
 pub mod Depth
 pub mod MemoLaws

@@ -1,5 +1,5 @@
 -- The search tries the same pairs, makes the same visits and ends the same way whatever the row counts and selectivities are. Assumes nothing.
-use Rattle.std.specs.Prelude.{◌≡◌, Bool, true, false, ◌||◌, length}
+use Rattle.std.specs.Prelude.{◌≡◌, Bool, true, false, ◌||◌, length, Float}
 use Rattle.std.proofs.Math.Path.{refl, sym, ap, subst}
 use Rattle.std.proofs.Common.{ap₂, ◌∙◌, suc-ne-zero, length-append}
 use Prim.Native.Nat.{ℕ, zero, suc, ◌+◌}
@@ -16,11 +16,14 @@ use Rattle.nodeset.specs.SubsetLaws.{All}
 use Rattle.definition.specs.Lists.{member}
 use Rattle.definition.specs.Answers.{plans_full, memo_full, visits_spent}
 use Rattle.definition.specs.Hypergraph.{Edge, connecting}
+use Rattle.definition.specs.Cost.{product}
+use Rattle.definition.specs.Connection.{Connection, connection_over}
 use Rattle.definition.specs.Walk.{solve}
 use Rattle.definition.proofs.WalkLaws.{Sided, elim_rel, solve_rel}
 pub use Rattle.definition.proofs.MemoLaws.{sets_of}
 use Rattle.definition.proofs.MemoLaws.{find-member, sets-memo_after, leaf_plans-length}
-use Rattle.definition.specs.Search.{Leaf, Plan, Entry, Pair, Input, State, find, is_some, kept, stopped, visit, added, stored, joined, candidate, attempt, leaf_entries, start, search, complete, ending}
+use Rattle.definition.specs.Search.{Leaf, Plan, Entry, Pair, Input, State, plan_at, find, is_some, kept, stopped, visit, added, stored, connection_for}
+use Rattle.definition.specs.Search.{linked, joined, candidate, attempt, leaf_entries, start, search, complete, ending}
 
 -- two inputs that differ at most in row counts, column counts of leaves, kinds and selectivities
 pub record SameForm (i j : Input) : Type 0 where
@@ -83,28 +86,34 @@ module _ (i j : Input) (f : SameForm i j) where
       (added_same s t a b p q r) (stopped_same s t memo_full r))
       (stopped_same s t plans_full r)
 
-  joined_same : (s t : State) (a b : ℕ) (o o' u u' : Option ℕ) (cs : List ℕ) → SameOpen s t → is_some o ≡ is_some o' → is_some u ≡ is_some u'
-      → SameOpen (joined i s a b o u cs) (joined j t a b o' u' cs)
+  -- over one list of connecting edges, whatever the items' kinds, the selectivities and the products
+  linked_same : (s t : State) (a b l l' r r' : ℕ) (es es' : List Edge) (ks ks' ss ss' cs : List ℕ) (p p' : Float) → SameOpen s t
+      → SameOpen (linked i s a b l r (connection_over es ks ss cs p)) (linked j t a b l' r' (connection_over es' ks' ss' cs p'))
+  unfolding linked connection_over
+  linked_same s t a b l l' r r' es es' ks ks' ss ss' [] p p' h = h
+  linked_same s t a b l l' r r' es es' ks ks' ss ss' (c ∷ cs) p p' h = stored_same s t a b (candidate s a b l r _) (candidate t a b l' r' _) h
+
+  joined_same : (s t : State) (a b : ℕ) (o o' u u' : Option ℕ) → SameOpen s t → is_some o ≡ is_some o' → is_some u ≡ is_some u'
+      → SameOpen (joined i s a b o u) (joined j t a b o' u')
   unfolding joined
-  joined_same s t a b none none u u' cs r e h = r
-  joined_same s t a b none (some o') u u' cs r e h = absurd (false≢true e)
-  joined_same s t a b (some o) none u u' cs r e h = absurd (false≢true (sym e))
-  joined_same s t a b (some o) (some o') none none cs r e h = r
-  joined_same s t a b (some o) (some o') none (some u') cs r e h = absurd (false≢true h)
-  joined_same s t a b (some o) (some o') (some u) none cs r e h = absurd (false≢true (sym h))
-  joined_same s t a b (some o) (some o') (some u) (some u') [] r e h = r
-  joined_same s t a b (some o) (some o') (some u) (some u') (c ∷ cs) r e h =
-      stored_same s t a b (candidate i s a b o u c cs) (candidate j t a b o' u' c cs) r
+  joined_same s t a b none none u u' r e h = r
+  joined_same s t a b none (some o') u u' r e h = absurd (false≢true e)
+  joined_same s t a b (some o) none u u' r e h = absurd (false≢true (sym e))
+  joined_same s t a b (some o) (some o') none none r e h = r
+  joined_same s t a b (some o) (some o') none (some u') r e h = absurd (false≢true h)
+  joined_same s t a b (some o) (some o') (some u) none r e h = absurd (false≢true (sym h))
+  joined_same s t a b (some o) (some o') (some u) (some u') r e h =
+      subst (λ (es : List Edge). SameOpen (linked i s a b o u (connection_for i s.plans a b o u)) (linked j t a b o' u' (over es))) f.edges
+      (linked_same s t a b o o' u u' i.edges j.edges i.kinds j.kinds i.selectivities j.selectivities (connecting i.edges a b) _ _ r)
+    where
+      over : List Edge → Option Connection
+      over es = connection_over j.edges j.kinds j.selectivities (connecting es a b) (product (plan_at t o').estimate (plan_at t u').estimate)
 
   attempt_same : (a b : ℕ) → Apart a b → (s t : State) → SameOpen s t → SameOpen (attempt i a b s) (attempt j a b t)
   unfolding attempt
   attempt_same a b p s t r =
       elim_rel SameOpen (eqb s.stop 0) (eqb t.stop 0) (ap (λ (n : ℕ). eqb n 0) r.stop)
-      (subst
-      (λ (es : List Edge). SameOpen (joined i s a b (find s.memo a) (find s.memo b) (connecting i.edges a b)) (joined j t a b (find t.memo a) (find t.memo b) (connecting es a b)))
-      f.edges
-      (joined_same s t a b (find s.memo a) (find t.memo a) (find s.memo b) (find t.memo b) (connecting i.edges a b) r (kept_same s t r a) (kept_same s t r b)))
-      r
+      (joined_same s t a b (find s.memo a) (find t.memo a) (find s.memo b) (find t.memo b) r (kept_same s t r a) (kept_same s t r b)) r
 
   entries_same : (n : ℕ) (ls ms : List Leaf) → length ls ≡ length ms → sets_of (leaf_entries n ls) ≡ sets_of (leaf_entries n ms)
   unfolding leaf_entries

@@ -8,12 +8,14 @@ use Rattle.nodeset.specs.Sets.{bit, singleton, lowest, all_below, up_to_lowest}
 use Rattle.nodeset.specs.SetLaws.{Apart, disjoint_apart}
 use Rattle.nodeset.specs.SubsetLaws.{All}
 use Rattle.nodeset.specs.Subsets.{doubled, subsets_of, non_empty_subsets, singletons_below, singletons}
-use Rattle.definition.specs.Hypergraph.{Edge, has_edge, connecting_from, beyond, neighborhood, any_predicate, selectivities_of}
+use Rattle.definition.specs.Hypergraph.{Edge, has_edge, connecting_from, beyond, neighborhood}
+use Rattle.definition.specs.Connection.{any_predicate, candidate_kind, selectivities_of, connection_over}
 use Rattle.definition.specs.Cost.{filtered, candidate_from}
 use Rattle.definition.specs.Walk.{enumerate_cmp_rec, emit_csg, enumerate_csg_rec, solve_from}
 use Rattle.definition.proofs.WalkLaws.{Sided}
-use Rattle.definition.specs.Search.{Leaf, Plan, Entry, Pair, Input, State, find, replace, visit, candidate_kind, candidate, memo_after, joined, attempt, leaf_plans, leaf_entries, start, search}
-use Rattle.definition.specs.Kept.{plan_of, Several, KeptAfter, Qualifies, Meets, occurs, JoinsOnce}
+use Rattle.definition.specs.Search.{plan_of, Leaf, Plan, Entry, Pair, Input, State, find, replace, visit, candidate, memo_after}
+use Rattle.definition.specs.Search.{linked, joined, attempt, leaf_plans, leaf_entries, start, search}
+use Rattle.definition.specs.Kept.{Several, KeptAfter, Qualifies, Meets, occurs, JoinsOnce}
 use Rattle.definition.specs.PlanRule.{WithinLimits, WellKept, PlanRule}
 use Rattle.definition.proofs.KeptLaws.{kept_unique, meets_unique}
 use Rattle.definition.proofs.KeptSearch.{search_rule, attempts, attempts_rule}
@@ -61,7 +63,7 @@ chain-within x y z columns s t room h =
 
 -- the search, with all that it takes to compute it
 unfoldable pub run : Input → State
-unfolding count_trailing_zeros bit singleton lowest all_below up_to_lowest doubled subsets_of non_empty_subsets singletons_below singletons has_edge connecting_from beyond neighborhood any_predicate selectivities_of filtered candidate_from enumerate_cmp_rec emit_csg enumerate_csg_rec solve_from find replace visit candidate_kind candidate memo_after joined attempt leaf_plans leaf_entries start search mul add div lt of_int
+unfolding count_trailing_zeros bit singleton lowest all_below up_to_lowest doubled subsets_of non_empty_subsets singletons_below singletons has_edge connecting_from beyond neighborhood any_predicate selectivities_of connection_over filtered candidate_from enumerate_cmp_rec emit_csg enumerate_csg_rec solve_from find replace visit candidate_kind candidate memo_after linked joined attempt leaf_plans leaf_entries start search mul add div lt of_int
 run i = search i
 
 abbrev pair : ℕ → ℕ → Pair

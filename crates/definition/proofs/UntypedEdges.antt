@@ -1,5 +1,5 @@
 -- The search does not read the edges' types: it is the same over the edges without them. Assumes nothing.
-use Rattle.std.specs.Prelude.{◌≡◌, List, [], ◌∷◌, ◌++◌, map, Bool, true, false, ◌&&◌, ◌||◌, length, get_or, eqb}
+use Rattle.std.specs.Prelude.{◌≡◌, List, [], ◌∷◌, ◌++◌, map, Bool, true, false, ◌&&◌, ◌||◌, length, get_or, eqb, Float}
 use Rattle.std.proofs.Math.Path.{refl, ap, ap₂}
 use Rattle.std.proofs.Common.{◌∙◌}
 use Rattle.std.proofs.lemmas.List.{map-append}
@@ -9,12 +9,12 @@ use Rattle.std.specs.Int.Bits.{bit_or}
 use Rattle.nodeset.specs.Sets.{singleton, all_below, up_to_lowest}
 use Rattle.nodeset.specs.Subsets.{non_empty_subsets, singletons}
 use Rattle.definition.specs.Lists.{tabulate}
-use Rattle.definition.specs.Hypergraph.{Edge, no_edge, connects, has_edge, connecting_from, connecting, beyond, neighborhood, has_predicate, any_predicate, selectivities_of}
+use Rattle.definition.specs.Hypergraph.{Edge, no_edge, connects, has_edge, connecting_from, connecting, beyond, neighborhood, has_predicate}
 use Rattle.definition.specs.EdgeView.{edge_at, edges_of}
-use Rattle.definition.specs.Cost.{candidate_estimate}
-use Rattle.definition.specs.Question.{inner, cross_product}
+use Rattle.definition.specs.Cost.{product, filtered}
+use Rattle.definition.specs.Connection.{Connection, any_predicate, candidate_kind, selectivities_of, connection_over}
 use Rattle.definition.specs.Walk.{each, try_connected, try_edge, enumerate_cmp_rec, emit_csg, emit_kept, enumerate_csg_rec, solve_from}
-use Rattle.definition.specs.Search.{Plan, Input, State, plan_at, find, kept, visit, candidate_kind, candidate, stored, joined, attempt, start, search}
+use Rattle.definition.specs.Search.{Input, State, plan_at, find, kept, visit, connection_for, linked, joined, attempt, start, search}
 
 -- ---- the walk is the same for other edges with the same neighbours and connections, and for the same candidates
 
@@ -117,36 +117,35 @@ abbrev pub untyped_input : Input → Input
 untyped_input i =
     record { leaves = i.leaves; edges = map untyped i.edges; kinds = i.kinds; selectivities = i.selectivities; plan_room = i.plan_room; memo_room = i.memo_room; limit = i.limit }
 
-kind_untyped : (i : Input) (c : ℕ) (cs : List ℕ) → candidate_kind (untyped_input i) c cs ≡ candidate_kind i c cs
-unfolding candidate_kind
-kind_untyped i c cs =
-    ap₂ (λ (e : Edge) (b : Bool). kind_of (get_or i.kinds e.source 0) b) (get_untyped i.edges c) (any_untyped i.edges (c ∷ cs))
-  where
-    kind_of : ℕ → Bool → ℕ
-    kind_of k b = elim b [ true ↦ elim (eqb k cross_product) [ true ↦ inner | false ↦ k ] | false ↦ cross_product ]
+connection_untyped : (es : List Edge) (ks ss cs : List ℕ) (p : Float) → connection_over (map untyped es) ks ss cs p ≡ connection_over es ks ss cs p
+unfolding connection_over
+connection_untyped es ks ss [] p = refl
+connection_untyped es ks ss (c ∷ cs) p =
+    let kind = ap₂ (λ (b : Bool) (e : Edge). candidate_kind b (get_or ks e.source 0)) (any_untyped es (c ∷ cs)) (get_untyped es c) in
+    ap₂ (λ (k : ℕ) (l : List ℕ). some (record { lead = c; kind = k; rows = filtered p l })) kind (selectivities_untyped es ss (c ∷ cs))
 
-candidate-untyped : (i : Input) (st : State) (a b l r c : ℕ) (cs : List ℕ) → candidate (untyped_input i) st a b l r c cs ≡ candidate i st a b l r c cs
-unfolding candidate
-candidate-untyped i st a b l r c cs =
-    ap₂ (λ (k : ℕ) (ss : List ℕ). plan k ss) (kind_untyped i c cs) (selectivities_untyped i.edges i.selectivities (c ∷ cs))
-  where
-    plan : ℕ → List ℕ → Plan
-    plan k ss =
-        record { set = bit_or a b; left = l; right = r; lead = c; kind = k; estimate = candidate_estimate k (plan_at st l).estimate (plan_at st r).estimate ss }
+for_untyped : (i : Input) (st : State) (a b l r : ℕ) → connection_for (untyped_input i) st.plans a b l r ≡ connection_for i st.plans a b l r
+for_untyped i st a b l r =
+    let p = product (plan_at st l).estimate (plan_at st r).estimate in
+    connection_untyped i.edges i.kinds i.selectivities (connecting (map untyped i.edges) a b) p
+    ∙ ap (λ (cs : List ℕ). connection_over i.edges i.kinds i.selectivities cs p) (connecting-untyped 0 i.edges a b)
 
-joined-untyped : (i : Input) (st : State) (a b : ℕ) (x y : Option ℕ) (cs : List ℕ) → joined (untyped_input i) st a b x y cs ≡ joined i st a b x y cs
+linked_untyped : (i : Input) (st : State) (a b l r : ℕ) (o : Option Connection) → linked (untyped_input i) st a b l r o ≡ linked i st a b l r o
+unfolding linked
+linked_untyped i st a b l r none = refl
+linked_untyped i st a b l r (some c) = refl
+
+joined-untyped : (i : Input) (st : State) (a b : ℕ) (x y : Option ℕ) → joined (untyped_input i) st a b x y ≡ joined i st a b x y
 unfolding joined
-joined-untyped i st a b none y cs = refl
-joined-untyped i st a b (some l) none cs = refl
-joined-untyped i st a b (some l) (some r) [] = refl
-joined-untyped i st a b (some l) (some r) (c ∷ cs) = ap (stored i st a b) (candidate-untyped i st a b l r c cs)
+joined-untyped i st a b none y = refl
+joined-untyped i st a b (some l) none = refl
+joined-untyped i st a b (some l) (some r) =
+    linked_untyped i st a b l r (connection_for (untyped_input i) st.plans a b l r) ∙ ap (linked i st a b l r) (for_untyped i st a b l r)
 
 attempt-untyped : (i : Input) (a b : ℕ) (st : State) → attempt (untyped_input i) a b st ≡ attempt i a b st
 unfolding attempt
 attempt-untyped i a b st =
-    ap (λ (u : State). elim (eqb st.stop 0) [ true ↦ u | false ↦ st ])
-    (joined-untyped i st a b (find st.memo a) (find st.memo b) (connecting (map untyped i.edges) a b)
-    ∙ ap (joined i st a b (find st.memo a) (find st.memo b)) (connecting-untyped 0 i.edges a b))
+    ap (λ (u : State). elim (eqb st.stop 0) [ true ↦ u | false ↦ st ]) (joined-untyped i st a b (find st.memo a) (find st.memo b))
 
 pub search-untyped : (i : Input) → search (untyped_input i) ≡ search i
 unfolding search start visit

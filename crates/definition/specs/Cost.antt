@@ -32,10 +32,14 @@ product l r = mul binary64 l.rows r.rows
 abbrev pub fraction : ℕ → Float
 fraction s = div binary64 (whole s) full
 
--- "multiplied for each connecting predicate in edge order by share/65536". ss: the selectivities of the connecting predicates, in edge order
+-- "multiplied .. by share/65536"
+abbrev pub selected : Float → ℕ → Float
+selected x s = mul binary64 x (fraction s)
+
+-- "for each connecting predicate in edge order". ss: the selectivities of the connecting predicates, in edge order
 unfoldable pub filtered : Float → List ℕ → Float
 filtered x [] = x
-filtered x (s ∷ ss) = filtered (mul binary64 x (fraction s)) ss
+filtered x (s ∷ ss) = filtered (selected x s) ss
 
 -- "and at the end 2^500 if it is greater than that"
 abbrev pub capped : Float → Float
@@ -91,9 +95,6 @@ unfoldable pub candidate_from : ℕ → Estimate → Estimate → Float → Esti
 candidate_from kind l r e =
     let rows = candidate_rows kind l r e in
     record { rows = rows; cost = candidate_cost l r rows }
-
-abbrev pub candidate_estimate : ℕ → Estimate → Estimate → List ℕ → Estimate
-candidate_estimate kind l r ss = candidate_from kind l r (filtered (product l r) ss)
 
 -- "A trial replaces the memo's plan only if strictly cheaper."
 abbrev pub cheaper : Estimate → Estimate → Bool

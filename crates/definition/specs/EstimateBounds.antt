@@ -1,7 +1,7 @@
 -- Bounds of rows and costs. Definitions only.
 use Rattle.std.specs.Prelude.{ℕ, ◌+◌, ◌-◌, ◌*◌, ◌^◌, ◌≤◌, ◌<◌, List, [], ◌∷◌, Float}
 use Rattle.std.specs.Float.Ieee.Positive.{num, den}
-use Rattle.definition.specs.Cost.{Estimate, leaf_estimate, candidate_estimate}
+use Rattle.definition.specs.Cost.{Estimate, leaf_estimate, product, filtered, candidate_from}
 use Rattle.definition.specs.EstimateOrder.{NonNegative}
 
 -- finite, not negative, and at most n
@@ -25,9 +25,13 @@ pub data JoinTree : Type 0 where
   scan : ℕ → ℕ → JoinTree
   join : ℕ → JoinTree → JoinTree → List ℕ → JoinTree
 
+-- rows and cost of a join of two plans over these selectivities; a candidate's are one (KeptLaws.antt `bounded`)
+abbrev pub join_estimate : ℕ → Estimate → Estimate → List ℕ → Estimate
+join_estimate kind l r ss = candidate_from kind l r (filtered (product l r) ss)
+
 unfoldable pub tree_estimate : JoinTree → Estimate
 tree_estimate (scan rows columns) = leaf_estimate rows columns
-tree_estimate (join kind l r ss) = candidate_estimate kind (tree_estimate l) (tree_estimate r) ss
+tree_estimate (join kind l r ss) = join_estimate kind (tree_estimate l) (tree_estimate r) ss
 
 abbrev pub leaves : JoinTree → ℕ
 leaves (scan rows columns) = 1

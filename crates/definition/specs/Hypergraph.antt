@@ -1,5 +1,5 @@
--- Edges, and what the search asks of them. No row count and no selectivity occurs here but in `selectivities_of`.
-use Rattle.std.specs.Prelude.{ℕ, suc, ◌^◌, ◌<◌, Bool, true, false, ◌&&◌, ◌||◌, not, List, [], ◌∷◌, get_or, eqb}
+-- Edges, and what the search asks of them. No row count and no selectivity occurs here.
+use Rattle.std.specs.Prelude.{ℕ, suc, ◌^◌, ◌<◌, Bool, true, false, ◌&&◌, ◌||◌, not, List, [], ◌∷◌, eqb}
 use Rattle.std.specs.Int.Bits.{bit_or}
 use Rattle.nodeset.specs.Sets.{within, disjoint, singleton, lowest}
 
@@ -24,6 +24,9 @@ none32 = 4294967295
 
 abbrev pub no_edge : Edge
 no_edge = record { left = 0; right = 0; predicate = none32; source = 0; type = 0 }
+
+abbrev pub has_predicate : Edge → Bool
+has_predicate e = not (eqb e.predicate none32)
 
 -- "An edge connects two sets if one of its sides lies in the one and its other side in the other, in either order"
 abbrev pub connects : ℕ → ℕ → Edge → Bool
@@ -51,26 +54,3 @@ unfoldable pub neighborhood : List Edge → ℕ → ℕ → ℕ
 neighborhood [] s x = 0
 neighborhood (e ∷ es) s x =
     bit_or (bit_or (beyond s x e.left e.right) (beyond s x e.right e.left)) (neighborhood es s x)
-
--- ---- what a candidate (document 01: trial) takes from the edges numbered cs
-
-abbrev pub has_predicate : Edge → Bool
-has_predicate e = not (eqb e.predicate none32)
-
-unfoldable pub any_predicate : List Edge → List ℕ → Bool
-any_predicate es [] = false
-any_predicate es (c ∷ cs) = has_predicate (get_or es c no_edge) || any_predicate es cs
-
--- "lead edge (lowest connecting edge)"
-abbrev pub lead_of : List ℕ → ℕ
-lead_of [] = none32
-lead_of (c ∷ cs) = c
-
--- the selectivities of these edges' predicates, in edge order; ss: those of all predicates
-unfoldable pub selectivities_of : List Edge → List ℕ → List ℕ → List ℕ
-selectivities_of es ss [] = []
-selectivities_of es ss (c ∷ cs) =
-    elim (has_predicate (get_or es c no_edge)) [
-      | true ↦ get_or ss (get_or es c no_edge).predicate 0 ∷ selectivities_of es ss cs
-      | false ↦ selectivities_of es ss cs
-    ]

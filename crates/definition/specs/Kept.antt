@@ -1,15 +1,14 @@
 -- Document 01, 'Open list and kept plans': the plans kept, and what they join, over any list of candidates (document 01: trials) that qualify.
 -- Definitions only. n: the number of leaves; ts: the candidates' pairs; ps: the plans, first the leaves', then the candidates'.
 use Rattle.std.specs.Prelude.{◌≡◌, Bool, true, false, List, [], ◌∷◌, ◌++◌, ℕ, ◌+◌, ◌≤◌, ◌<◌, length, get_or, take, eqb}
+use Rattle.std.proofs.Math.Option.{some}
 use Rattle.std.specs.Int.Bits.{bit_or}
 use Rattle.nodeset.specs.Sets.{bit, singleton, Apart}
-use Rattle.definition.specs.Hypergraph.{Edge, no_edge, connects, connecting, selectivities_of}
-use Rattle.definition.specs.Cost.{Estimate, candidate_estimate}
+use Rattle.definition.specs.Hypergraph.{Edge, no_edge, connects}
+use Rattle.definition.specs.Cost.{Estimate, candidate_from}
+use Rattle.definition.specs.Connection.{Connection}
 use Rattle.definition.specs.EstimateOrder.{Earliest}
-use Rattle.definition.specs.Search.{Plan, Pair, Input, absent, candidate_kind, leaf_plans}
-
-abbrev pub plan_of : List Plan → ℕ → Plan
-plan_of ps p = get_or ps p absent
+use Rattle.definition.specs.Search.{Plan, Pair, Input, plan_of, connection_for, leaf_plans}
 
 abbrev pub pair_of : List Pair → ℕ → Pair
 pair_of ts k = get_or ts k (record { left = 0; right = 0 })
@@ -56,15 +55,14 @@ pub record Qualifies (es : List Edge) (n : ℕ) (ts : List Pair) (ps : List Plan
   pub right : KeptAfter n ts ps k t.right q.right
   pub edge : EdgeBetween es t.left t.right
 
--- "and takes rows and cost from them as above": the other fields of q, the pair t tried. others: the connecting edges behind the lead edge
+-- "and takes rows and cost from them as above": the other fields of q, the pair t tried. taken: what the connecting edges give
 pub record Made (i : Input) (ps : List Plan) (t : Pair) (q : Plan) : Type 0 where
-  pub others : List ℕ
-  pub lead : connecting i.edges t.left t.right ≡ q.lead ∷ others
+  pub taken : Connection
+  pub connection : connection_for i ps t.left t.right q.left q.right ≡ some taken
   pub set : q.set ≡ union t
-  pub kind : q.kind ≡ candidate_kind i q.lead others
-  pub estimate : q.estimate
-      ≡ candidate_estimate q.kind (plan_of ps q.left).estimate (plan_of ps q.right).estimate
-      (selectivities_of i.edges i.selectivities (q.lead ∷ others))
+  pub lead : q.lead ≡ taken.lead
+  pub kind : q.kind ≡ taken.kind
+  pub estimate : q.estimate ≡ candidate_from q.kind (plan_of ps q.left).estimate (plan_of ps q.right).estimate taken.rows
 
 -- ts are the pairs of candidates that qualify one after the other, and ps the leaves and what was made of the pairs
 pub record Candidates (i : Input) (ts : List Pair) (ps : List Plan) : Type 0 where

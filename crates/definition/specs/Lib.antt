@@ -23,4 +23,4 @@ pub mod PlanRule
 pub mod OpenRule
 pub mod TriedList
 -- The walk over the edges, as the code makes it.
-pub mod EdgeWalkLaws
+pub mod EdgeWalk

@@ -6,10 +6,10 @@ use Rattle.definition.specs.Lists.{tabulate, member}
 use Rattle.definition.specs.EstimateOrder.{Earliest, NonNegative}
 use Rattle.definition.specs.EstimateBounds.{AtMost, Selectivities}
 use Rattle.definition.specs.Hypergraph.{Sided}
-use Rattle.definition.specs.Search.{Leaf, Plan, Entry, Pair, Input}
+use Rattle.definition.specs.Search.{plan_of, Leaf, Plan, Entry, Pair, Input}
 use Rattle.definition.specs.Sheet.{question_of}
 use Rattle.definition.specs.Call.{Rooms, Outcome, input_of, call}
-use Rattle.definition.specs.Kept.{plan_of, estimate_of, union, made_for, Several, KeptAfter, Candidates, JoinsOnce, EdgeAtEachJoin}
+use Rattle.definition.specs.Kept.{estimate_of, union, made_for, Several, KeptAfter, Candidates, JoinsOnce, EdgeAtEachJoin}
 
 -- what the search may be given: as many leaves, rows, columns and selectivities as document 01 and request 2026-10 allow, and edges with two sides
 pub record WithinLimits (i : Input) : Type 0 where

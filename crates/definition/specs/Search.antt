@@ -5,9 +5,10 @@ use Rattle.std.specs.Int.Bits.{bit_or}
 use Rattle.std.specs.Float.{fin}
 use Rattle.nodeset.specs.Sets.{singleton, all_below}
 use Rattle.definition.specs.Answers.{planned, plans_full, memo_full, visits_spent, no_plan}
-use Rattle.definition.specs.Question.{cross_product, leaf, inner}
-use Rattle.definition.specs.Hypergraph.{Edge, none32, no_edge, connecting, any_predicate, selectivities_of}
-use Rattle.definition.specs.Cost.{Estimate, leaf_estimate, candidate_estimate, cheaper}
+use Rattle.definition.specs.Question.{leaf}
+use Rattle.definition.specs.Hypergraph.{Edge, none32}
+use Rattle.definition.specs.Cost.{Estimate, leaf_estimate, product, candidate_from, cheaper}
+use Rattle.definition.specs.Connection.{Connection, connection}
 use Rattle.definition.specs.Walk.{solve}
 
 -- "Fields: set, left plan, right plan, lead edge (lowest connecting edge), kind, rows, cost."
@@ -57,8 +58,12 @@ abbrev pub absent : Plan
 absent =
     record { set = 0; left = 0; right = 0; lead = none32; kind = leaf; estimate = record { rows = fin false 0 (pos 0); cost = fin false 0 (pos 0) } }
 
+-- plan number n of ps
+abbrev pub plan_of : List Plan → ℕ → Plan
+plan_of ps n = get_or ps n absent
+
 abbrev pub plan_at : State → ℕ → Plan
-plan_at st n = get_or st.plans n absent
+plan_at st n = plan_of st.plans n
 
 -- ---- the memo
 
@@ -96,25 +101,22 @@ visit i st =
 
 -- ---- one candidate
 
--- "8 if no connecting edge has a predicate, else the lead edge's source kind, with 0 for a cross product". c ∷ cs: the connecting edges
-unfoldable pub candidate_kind : Input → ℕ → List ℕ → ℕ
-candidate_kind i c cs =
-    let k = get_or i.kinds (get_or i.edges c no_edge).source 0 in
-    elim (any_predicate i.edges (c ∷ cs)) [ true ↦ elim (eqb k cross_product) [ true ↦ inner | false ↦ k ] | false ↦ cross_product ]
+-- what the edges that connect a and b give for the plans l and r of ps; none where no edge does
+abbrev pub connection_for : Input → List Plan → ℕ → ℕ → ℕ → ℕ → Option Connection
+connection_for i ps a b l r =
+    connection i.edges i.kinds i.selectivities a b (product (plan_of ps l).estimate (plan_of ps r).estimate)
 
--- the plans l and r, kept for a and b, joined over the connecting edges c ∷ cs. Request 2026-01: "Left and right are the trial's own, as its plan
--- reads, also where its lead edge lies the other way round."
-unfoldable pub candidate : Input → State → ℕ → ℕ → ℕ → ℕ → ℕ → List ℕ → Plan
-candidate i st a b l r c cs =
+-- the plans l and r, kept for a and b, joined; c: what the connecting edges give. Request 2026-01: "Left and right are the trial's own, as its
+-- plan reads, also where its lead edge lies the other way round."
+unfoldable pub candidate : State → ℕ → ℕ → ℕ → ℕ → Connection → Plan
+candidate st a b l r c =
     record {
       set = bit_or a b;
       left = l;
       right = r;
-      lead = c;
-      kind = candidate_kind i c cs;
-      estimate =
-          candidate_estimate (candidate_kind i c cs) (plan_at st l).estimate (plan_at st r).estimate
-          (selectivities_of i.edges i.selectivities (c ∷ cs));
+      lead = c.lead;
+      kind = c.kind;
+      estimate = candidate_from c.kind (plan_at st l).estimate (plan_at st r).estimate c.rows;
     }
 
 -- "A trial replaces the memo's plan only if strictly cheaper." n: the candidate's number; the last argument: the plan that the memo has for s
@@ -143,16 +145,19 @@ stored i st a b p =
       | false ↦ stopped st plans_full
     ]
 
--- the plans kept for a and for b, if any, and the connecting edges: "The two memo lookups that leave `emit_csg_cmp` early remain early exits"
-unfoldable pub joined : Input → State → ℕ → ℕ → Option ℕ → Option ℕ → List ℕ → State
-joined i st a b none r cs = st
-joined i st a b (some l) none cs = st
-joined i st a b (some l) (some r) [] = st
-joined i st a b (some l) (some r) (c ∷ cs) = stored i st a b (candidate i st a b l r c cs)
+-- with the plans l and r; the last argument: what the connecting edges give, none where no edge connects a and b
+unfoldable pub linked : Input → State → ℕ → ℕ → ℕ → ℕ → Option Connection → State
+linked i st a b l r none = st
+linked i st a b l r (some c) = stored i st a b (candidate st a b l r c)
+
+-- the plans kept for a and for b, if any: "The two memo lookups that leave `emit_csg_cmp` early remain early exits"
+unfoldable pub joined : Input → State → ℕ → ℕ → Option ℕ → Option ℕ → State
+joined i st a b none r = st
+joined i st a b (some l) none = st
+joined i st a b (some l) (some r) = linked i st a b l r (connection_for i st.plans a b l r)
 
 unfoldable pub attempt : Input → ℕ → ℕ → State → State
-attempt i a b st =
-    elim (eqb st.stop 0) [ true ↦ joined i st a b (find st.memo a) (find st.memo b) (connecting i.edges a b) | false ↦ st ]
+attempt i a b st = elim (eqb st.stop 0) [ true ↦ joined i st a b (find st.memo a) (find st.memo b) | false ↦ st ]
 
 -- ---- the search
 

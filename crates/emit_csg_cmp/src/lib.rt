@@ -20,15 +20,15 @@ pub fn write(l: &mut Lists<'_>, at: u32, s: u64, c: Candidate)
     let place = c.place;
     let k = place.position;
     let e = c.estimate;
-    store::put(l.pset, at, s);
-    store::put(l.pleft, at, c.left.0);
-    store::put(l.pright, at, c.right.0);
-    store::put(l.plead, at, c.lead);
-    store::put(l.pkind, at, c.kind);
-    store::put(l.prows, at, e.rows);
-    store::put(l.pcost, at, e.cost);
-    store::put(l.mset, k, s);
-    store::put(l.mplan, k, place.best.0);
+    places::put(l.pset, at, s);
+    places::put(l.pleft, at, c.left.0);
+    places::put(l.pright, at, c.right.0);
+    places::put(l.plead, at, c.lead);
+    places::put(l.pkind, at, c.kind);
+    places::put(l.prows, at, e.rows);
+    places::put(l.pcost, at, e.cost);
+    places::put(l.mset, k, s);
+    places::put(l.mplan, k, place.best.0);
 }
 
 // What is due for the pair of sets a and b.

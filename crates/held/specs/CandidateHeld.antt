@@ -13,13 +13,11 @@ use Rattle.std.specs.Int.Bits.{bit_or}
 use borrow.Author.Tests.{eq-eqb, ne_eqb, eqb-true, eqb-false, ltb-true, ltb-false, lt-ltb, le-ltb}
 use Rattle.definition.specs.Lists.{column}
 use Rattle.definition.specs.Answers.{plans_full, memo_full}
-use Rattle.definition.specs.Hypergraph.{Edge, none32, no_edge, lead_of, connecting}
+use Rattle.definition.specs.Hypergraph.{Edge}
 use Rattle.definition.specs.Cost.{Estimate, product, candidate_from, cheaper}
-use Rattle.definition.specs.Connection.{Connection, connection_over, connection}
-use Rattle.definition.proofs.EdgeViewLaws.{length-edges, edges_get}
-use Rattle.definition.proofs.EdgeWalkLaws.{lead_is_edge}
+use Rattle.definition.specs.Connection.{Connection, connection}
 use Rattle.definition.specs.Search.{Plan, Entry, Leaf, Input, State, absent, plan_at, find, replace, kept, stopped}
-use Rattle.definition.specs.Search.{candidate_kind, candidate, memo_after, added, stored, joined, attempt}
+use Rattle.definition.specs.Search.{connection_for, candidate, memo_after, added, stored, linked, joined, attempt}
 use Rattle.store.specs.declared.DPhyp.{DPhyp}
 use Rattle.store.specs.declared.Stop as declared
 use Rattle.store.specs.declared.Stop.TheVariants.{PlansFull, MemoFull}
@@ -29,7 +27,7 @@ use Rattle.store.specs.Estimates as estimates
 use Rattle.candidate.specs.declared.Place.{Place}
 use Rattle.candidate.specs.declared.Due.TheVariants.{Stop, Skip}
 use Rattle.candidate.specs.Store as S
-use Rattle.candidate.specs.Store.{Lists, Given, store, edges, spot_of, at, kind_of, lead_kind, place, place_of, plan_for, due_of}
+use Rattle.candidate.specs.Store.{Lists, Given, store, edges, spot_of, at, place, place_of, plan_for, due_of}
 use Rattle.held.specs.Held.{input_for, holding, Roomy}
 use Rattle.candidate.specs.Laws.{lists_eq, attempt_skip, attempt_stop, attempt_make, due_stopped, due_no_left, due_no_right, due_none}
 use Rattle.candidate.specs.Laws.{due_full, due_no_place, due_place, place_new, place-full, place-cheaper, place_old}
@@ -66,7 +64,7 @@ replace-length (e ∷ m) s n = go (eqb e.set s) (replace-length m s n)
 abbrev pub Named : ℕ → List Entry → Type 0
 Named n m = (s k : ℕ) → find m s ≡ some k → k < n
 
-module _ (g : Given) (ls : List Leaf) (limit : ℕ) (h : Lists) (room : Roomy g h) (few : g.n ≤ none32) (a b : ℕ) (st : State)
+module _ (g : Given) (ls : List Leaf) (limit : ℕ) (h : Lists) (room : Roomy g h) (a b : ℕ) (st : State)
     (named : Named (length st.plans) st.memo) where
   abbrev I : Input
   I = input_for g ls limit
@@ -86,7 +84,7 @@ module _ (g : Given) (ls : List Leaf) (limit : ℕ) (h : Lists) (room : Roomy g 
   for : (s : ℕ) → plan_for H P s ≡ to_kept (find st.memo s)
   for s = plan_for_lem st.memo (drop (length st.memo) h.mset) (drop (length st.memo) h.mplan) s
 
-  runs : st.stop ≡ 0 → attempt I a b st ≡ joined I st a b (find st.memo a) (find st.memo b) (connecting es a b)
+  runs : st.stop ≡ 0 → attempt I a b st ≡ joined I st a b (find st.memo a) (find st.memo b)
   unfolding attempt
   runs e = rw (eq-eqb _ _ e, attempt)
 
@@ -137,51 +135,33 @@ module _ (g : Given) (ls : List Leaf) (limit : ℕ) (h : Lists) (room : Roomy g 
     er : plan_for H P b ≡ Some (plan_id r)
     er = for b ∙ ap to_kept eb
 
-    is_joined : (cs : List ℕ) → connecting es a b ≡ cs → attempt I a b st ≡ joined I st a b (some l) (some r) cs
-    is_joined cs ec = runs s0 ∙ rw (ea, eb, ec)
-
-    -- what the listed connecting edges give is what the store's candidate takes
-    over : (cs : List ℕ) → connecting es a b ≡ cs
-        → connection_over es g.selectivity cs (product L R) ≡ connection es g.selectivity a b (product (at H l) (at H r))
-    over cs ec = ap₂ (λ (z : List ℕ) (x : Float). connection_over es g.selectivity z x) (sym ec) (ap₂ product e_l e_r)
-
-    none_goal : connecting es a b ≡ [] → Goal
+    is_linked : (o : Option Connection) → connection_for I st.plans a b l r ≡ o → attempt I a b st ≡ linked I st a b l r o
     unfolding joined
-    none_goal ec = skip (due_none g H P a b off el er (over [] ec) refl) (is_joined [] ec)
+    is_linked o ec = runs s0 ∙ ap₂ (joined I st a b) ea eb ∙ ap (linked I st a b l r) ec
 
-    module _ (c : ℕ) (cs : List ℕ) (ec : connecting es a b ≡ c ∷ cs) where
-      abbrev e : Connection
-      e = connection_over es g.selectivity (c ∷ cs) (product L R)
+    -- what the connecting edges give is what the store's candidate takes
+    over : (o : Option Connection) → connection_for I st.plans a b l r ≡ o → o ≡ connection es g.kinds g.selectivity a b (product (at H l) (at H r))
+    over o ec = sym ec ∙ ap (connection es g.kinds g.selectivity a b) (ap₂ product e_l e_r)
 
+    none_goal : connection_for I st.plans a b l r ≡ none → Goal
+    unfolding linked
+    none_goal ec = skip (due_none g H P a b off el er (over none ec)) (is_linked none ec)
+
+    module _ (c : Connection) (ec : connection_for I st.plans a b l r ≡ some c) where
       abbrev p : Plan
-      p = candidate I st a b l r c cs
+      p = candidate st a b l r c
 
-      lead_under : c < g.n
-      lead_under = omega (arith, lead_is_edge es a b c cs ec, ap lead_of ec, length-edges g.n g.left g.right g.predicate g.source [])
-
-      lead_some : e.lead ≡ none32 → ⊥
-      lead_some z = let w = lead_under in omega arith
-
-      abbrev k : ℕ
-      k = candidate_kind I c cs
-
-      kind_is : k ≡ kind_of e.filters (lead_kind g.source g.kinds c)
-      unfolding candidate_kind kind_of
-      kind_is =
-          ap (λ (x : ℕ). kind_of e.filters (get_or g.kinds x 0))
-          (ap (λ (y : Edge). y.source) (edges_get g.n g.left g.right g.predicate g.source [] c no_edge lead_under))
-
-      estimate-from : p.estimate ≡ candidate_from k (at H l) (at H r) e.rows
+      estimate-from : p.estimate ≡ candidate_from c.kind (at H l) (at H r) c.rows
       unfolding candidate
-      estimate-from = ap₂ (λ (x y : Estimate). candidate_from k x y e.rows) e_l e_r
+      estimate-from = ap₂ (λ (x y : Estimate). candidate_from c.kind x y c.rows) e_l e_r
 
       is_stored : attempt I a b st ≡ stored I st a b p
-      unfolding joined
-      is_stored = is_joined (c ∷ cs) ec
+      unfolding linked
+      is_stored = is_linked (some c) ec
 
       full_goal : g.plan_room ≤ n → Goal
       full_goal f =
-          stop plans_full PlansFull refl (due_full g H P a b off el er (over (c ∷ cs) ec) lead_some f)
+          stop plans_full PlansFull refl (due_full g H P a b off el er (over (some c) ec) f)
           (is_stored ∙ rw (le-ltb (length st.plans) g.plan_room f, stored))
 
       abbrev seat : prelude.Option Place
@@ -198,7 +178,7 @@ module _ (g : Given) (ls : List Leaf) (limit : ℕ) (h : Lists) (room : Roomy g 
         unfolding candidate
         made_goal i best m es' ed em e1 e2 =
             let q = length-append st.plans (p ∷ []) in
-            sym (attempt_make g a b H P (due_place g H P a b off el er (over (c ∷ cs) ec) lead_some roomy kind_is estimate-from refl es') refl)
+            sym (attempt_make g a b H P (due_place g H P a b off el er (over (some c) ec) roomy estimate-from refl es') refl)
             ∙ ap₂ (λ (x : Lists) (y : DPhyp). store x y)
             (lists_eq
             (put (λ (x : Plan). x.set) st.plans p h.pset 0 (omega (arith, room.pset)))
@@ -240,7 +220,7 @@ module _ (g : Given) (ls : List Leaf) (limit : ℕ) (h : Lists) (room : Roomy g 
         no_room_goal : spot 0 (sets st.memo) (bit_or a b) ≡ None → g.memo_room ≤ length st.memo → Goal
         no_room_goal q le =
             stop memo_full MemoFull refl
-            (due_no_place g H P a b off el er (over (c ∷ cs) ec) lead_some roomy kind_is estimate-from refl
+            (due_no_place g H P a b off el er (over (some c) ec) roomy estimate-from refl
             (sym (place-full H.prows H.pcost H.mplan (length st.memo) g.memo_room n p.estimate (spot_is ∙ q) le)))
             (is_stored ∙ rw (lt-ltb (length st.plans) g.plan_room roomy, stored, unseated 0 st.memo (bit_or a b) q, le-ltb (length st.memo) g.memo_room le))
 
@@ -316,13 +296,17 @@ module _ (g : Given) (ls : List Leaf) (limit : ℕ) (h : Lists) (room : Roomy g 
   unfolding joined
   attempt_held = go (eqb st.stop 0) refl
     where
-      both : st.stop ≡ 0 → (x : Option ℕ) → find st.memo a ≡ x → (y : Option ℕ) → find st.memo b ≡ y → (cs : List ℕ) → connecting es a b ≡ cs → Goal
-      both z none ea y eb cs ec = skip (due_no_left g H P a b (stop_off st.stop z) (for a ∙ ap to_kept ea)) (runs z ∙ rw ea)
-      both z (some l) ea none eb cs ec =
+      linked_goal : (z : st.stop ≡ 0) (l r : ℕ) (ea : find st.memo a ≡ some l) (eb : find st.memo b ≡ some r) (o : Option Connection)
+          → connection_for I st.plans a b l r ≡ o → Goal
+      linked_goal z l r ea eb none ec = none_goal z l r ea eb ec
+      linked_goal z l r ea eb (some c) ec = edge_goal z l r ea eb c ec
+
+      both : st.stop ≡ 0 → (x : Option ℕ) → find st.memo a ≡ x → (y : Option ℕ) → find st.memo b ≡ y → Goal
+      both z none ea y eb = skip (due_no_left g H P a b (stop_off st.stop z) (for a ∙ ap to_kept ea)) (runs z ∙ rw ea)
+      both z (some l) ea none eb =
           skip (due_no_right g H P a b (stop_off st.stop z) (for a ∙ ap to_kept ea) (for b ∙ ap to_kept eb)) (runs z ∙ rw (ea, eb))
-      both z (some l) ea (some r) eb [] ec = none_goal z l r ea eb ec
-      both z (some l) ea (some r) eb (c ∷ cs) ec = edge_goal z l r ea eb c cs ec
+      both z (some l) ea (some r) eb = linked_goal z l r ea eb (connection_for I st.plans a b l r) refl
 
       go : (x : Bool) → eqb st.stop 0 ≡ x → Goal
       go false q = skip (due_stopped g H P a b (stop_on st.stop (eqb-false _ _ q))) (frozen (eqb-false _ _ q))
-      go true q = both (eqb-true _ _ q) (find st.memo a) refl (find st.memo b) refl (connecting es a b) refl
+      go true q = both (eqb-true _ _ q) (find st.memo a) refl (find st.memo b) refl

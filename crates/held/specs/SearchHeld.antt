@@ -9,12 +9,13 @@ use Rattle.std.specs.Int.Bits.{bit_or}
 use Rattle.std.proofs.lemmas.Bool.{eqb-false}
 use Rattle.nodeset.specs.SubsetLaws.{All}
 use Rattle.definition.specs.Answers.{visits_spent}
-use Rattle.definition.specs.Hypergraph.{none32, Sided, connecting}
+use Rattle.definition.specs.Hypergraph.{Sided}
 use Rattle.definition.specs.Cost.{cheaper}
 use Rattle.definition.specs.Search.{Plan, Leaf, Input, State, plan_at, find, is_some, kept, stopped, visit, candidate, memo_after, added}
-use Rattle.definition.specs.Search.{joined, attempt, start, search}
+use Rattle.definition.specs.Search.{attempt, start, search}
 use Rattle.definition.specs.Walk.{solve}
 use Rattle.definition.proofs.WalkLaws.{solve_rel}
+use Rattle.definition.proofs.StepLaws.{attempt_keeps}
 use Rattle.definition.proofs.MemoLaws.{some_inj, winner, memo_after_same, memo_after_other, leaf_plans-length, leaf_found}
 use Rattle.store.specs.Counts.{counts}
 use Rattle.store.specs.Memo.{spot, is_at}
@@ -30,10 +31,6 @@ use Rattle.held.specs.CandidateHeld.{Named, attempt_held}
 
 abbrev Ok : State → Type 0
 Ok st = Named (length st.plans) st.memo
-
-ok_elim : (b : Bool) (x y : State) → Ok x → Ok y → Ok (elim b [ true ↦ x | false ↦ y ])
-ok_elim true x y p q = p
-ok_elim false x y p q = q
 
 winner_named : (st : State) (p : Plan) (s : ℕ) (o : Option ℕ) → find st.memo s ≡ o → Ok st → winner st (length st.plans) p o < suc (length st.plans)
 winner_named st p s none e ok = omega arith
@@ -65,19 +62,8 @@ ok_added st a b p ok s k e = go (eqb u s) refl
         let w = ok s k (sym (memo_after_other st u n p (find st.memo u) s (eqb-false _ _ d)) ∙ e) in
         omega (arith, l)
 
-ok_joined : (i : Input) (st : State) (a b : ℕ) (x y : Option ℕ) (cs : List ℕ) → Ok st → Ok (joined i st a b x y cs)
-unfolding joined
-ok_joined i st a b none y cs ok = ok
-ok_joined i st a b (some l) none cs ok = ok
-ok_joined i st a b (some l) (some r) [] ok = ok
-ok_joined i st a b (some l) (some r) (c ∷ cs) ok =
-    ok_elim (ltb (length st.plans) i.plan_room) _ _
-    (ok_elim (kept st (bit_or a b) || ltb (length st.memo) i.memo_room) _ _ (ok_added st a b (candidate i st a b l r c cs) ok) ok) ok
-
 ok_attempt : (i : Input) (a b : ℕ) (st : State) → Ok st → Ok (attempt i a b st)
-unfolding attempt
-ok_attempt i a b st ok =
-    ok_elim (eqb st.stop 0) _ _ (ok_joined i st a b (find st.memo a) (find st.memo b) (connecting i.edges a b) ok) ok
+ok_attempt i a b st ok = attempt_keeps i Ok st ok a b ok ok (λ l r c x. ok_added st a b (candidate st a b l r c) ok)
 
 -- ---- the lists hold the state
 
@@ -88,7 +74,7 @@ spot_found st s = go (spot 0 (sets st.memo) s) refl
     go None q = sym (ap is_some (unseated 0 st.memo s q))
     go (Some k) q = sym (ap is_some (seated 0 st.memo s k q).2.found)
 
-module _ (g : Given) (ls : List Leaf) (limit : ℕ) (h : Lists) (room : Roomy g h) (few : g.n ≤ none32) where
+module _ (g : Given) (ls : List Leaf) (limit : ℕ) (h : Lists) (room : Roomy g h) where
   abbrev I : Input
   I = input_for g ls limit
 
@@ -122,7 +108,7 @@ module _ (g : Given) (ls : List Leaf) (limit : ℕ) (h : Lists) (room : Roomy g 
           (ap (store (holding h st).held) (sym (visit_over limit (holding h st).at (stop_off st.stop (eqb-true _ _ d)) (ltb-false _ _ k)))) r.1
 
   holds-attempt : (a b : ℕ) (u : Store) (st : State) → Holds u st → Holds (S.attempt g a b u) (attempt I a b st)
-  holds-attempt a b u st r = (ap (S.attempt g a b) r.0 ∙ attempt_held g ls limit h room few a b st r.1, ok_attempt I a b st r.1)
+  holds-attempt a b u st r = (ap (S.attempt g a b) r.0 ∙ attempt_held g ls limit h room a b st r.1, ok_attempt I a b st r.1)
 
   start_ok : Ok (start I)
   unfolding start

@@ -6,8 +6,8 @@ use Rattle.std.proofs.Math.ListN.{get_or-append, get_or-map}
 use Rattle.std.proofs.lemmas.List.Edits.{sets, sets-eq}
 use Rattle.definition.specs.Lists.{tabulate}
 use Rattle.definition.proofs.ListLaws.{length-tabulate, get_d_tabulate}
-use Rattle.definition.specs.Search.{Input, Pair, Plan, absent}
-use Rattle.definition.specs.Kept.{plan_of, pair_of, KeptAfter, Candidates}
+use Rattle.definition.specs.Search.{plan_of, Input, Pair, Plan, absent}
+use Rattle.definition.specs.Kept.{pair_of, KeptAfter, Candidates}
 use Rattle.definition.proofs.KeptLaws.{kept_below, kept_set}
 use Rattle.listing.specs.Text.{pairs_of, side_sets}
 

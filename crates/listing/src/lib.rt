@@ -8,7 +8,7 @@ ghost use Rattle.std.proofs.lemmas.List.Edits.{sets};
 ghost use Rattle.definition.specs.TriedList.{decimal, tried_list};
 ghost use Rattle.listing.specs.Text.{pairs_of, answer_for, written_in, head_length, lines_length, side_sets};
 
-use store::at;
+use places::{at, put};
 use text::Text;
 
 // How many digits n has.
@@ -39,7 +39,7 @@ pub fn side_sets(pset: &[u64], pside: &[u32], leaves: u32, plans: u32, side: &mu
 {
     // kept: by its number, since a place past a list's end is read as 0, where an iterator would end
     for k in leaves..plans {
-        store::put(side, k - leaves, at(pset, at(pside, k, 0), 0));
+        put(side, k - leaves, at(pset, at(pside, k, 0), 0));
     }
 }
 

@@ -4,7 +4,7 @@ ghost use Rattle.definition.specs.TriedList.{decimal, hex_digit, hex_digits, hex
 ghost use Rattle.listing.specs.Text.{Puts, pairs_of};
 ghost use Rattle.listing.specs.Same.{Same};
 
-use store::at;
+use places::at;
 
 const SPACE: u8 = b' ';
 

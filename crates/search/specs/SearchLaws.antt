@@ -8,7 +8,6 @@ use Rattle.nodeset.specs.Sets.{all_below}
 use Rattle.cost.specs.declared.Leaf as declared
 use Rattle.cost.specs.View.{leaf_of}
 use Rattle.definition.specs.Cost.{Estimate, leaf_estimate}
-use Rattle.definition.specs.Hypergraph.{none32}
 use Rattle.definition.proofs.ListLaws.{length-tabulate}
 use Rattle.definition.specs.Search.{Leaf, Input, search, find}
 use Rattle.definition.proofs.StopLaws.{search_stop}
@@ -61,13 +60,13 @@ module _ (g : Given) (h : Lists) (n : ℕ) (ready : Ready g h n) (ls : List Leaf
   abbrev I : Input
   I = input_for g ls limit
 
-  pub search_is : {u : Lists} {p : DPhyp} {st : Store} → g.n ≤ none32 → u ≡ leaves_written 0 ls h → p ≡ counts n n 0 None
+  pub search_is : {u : Lists} {p : DPhyp} {st : Store} → u ≡ leaves_written 0 ls h → p ≡ counts n n 0 None
       → st ≡ store_solve g limit n (store u p) → st ≡ holding h (search I)
-  search_is {u} {p} {st} few eu ep es =
+  search_is {u} {p} {st} eu ep es =
       es ∙ ap₂ (λ (a : Lists) (b : DPhyp). store_solve g limit n (store a b)) eu ep
       ∙ ap (λ (m : ℕ). store_solve g limit m (store (leaves_written 0 ls h) (counts m m 0 None))) (sym many)
       ∙ ap (store_solve g limit (length ls)) (leaves_held g h ready.room ls limit (omega (arith, ready.plans)) (omega (arith, ready.memo)))
-      ∙ search_held g ls limit h ready.room few ready.sided
+      ∙ search_held g ls limit h ready.room ready.sided
 
   -- the number of what stopped the search is the definition's
   pub stop_is : {u : Lists} {p : DPhyp} → store u p ≡ holding h (search I) → stop_number p.stop ≡ (search I).stop

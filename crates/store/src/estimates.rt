@@ -3,7 +3,6 @@ ghost use Rattle.std.specs.Prelude.{◌≡◌};
 ghost use Rattle.cost.specs.View.{estimate_of};
 ghost use Rattle.store.specs.Estimates.{estimate_at};
 
-use crate::places;
 use cost::Estimate;
 use nodeset::PlanId;
 

@@ -2,7 +2,7 @@
 ghost use Rattle.std.specs.Prelude.{◌≡◌, take};
 ghost use Rattle.store.specs.Memo.{spot, kept_of, is_at};
 
-use crate::{places, sets};
+use crate::sets;
 use nodeset::PlanId;
 
 // The plan that the memo keeps for s.

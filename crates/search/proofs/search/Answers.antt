@@ -1,7 +1,6 @@
-use Rattle.std.proofs.Common.{arith, rules}
-use Rattle.std.specs.Prelude.{◌≤◌, length, map}
+use Rattle.std.proofs.Common.{rules}
+use Rattle.std.specs.Prelude.{map}
 use Rattle.std.proofs.lemmas.List.{length-map}
-use Rattle.definition.specs.Hypergraph.{none32}
 use Rattle.cost.specs.View.{leaf_of}
 use Rattle.candidate.specs.Lent.{given_of, lists_of}
 use Rattle.search.specs.SearchLaws.{search_is, stop_is, ends_is}
@@ -14,9 +13,8 @@ returns c =
     let h = lists_of a.l.now in
     let ls = map leaf_of a.leaves.now in
     let many = length-map a.leaves.now leaf_of in
-    let few : length a.g.now.edges.left.now ≤ none32 = omega (arith, a.g.now.edges.as_long) in
-    let held = search_is g h _ c.requires ls many a.g.now.limit few c.write_leaves.ensures.value c.new.ensures c.solve-counts.ensures.value in
     let limit = a.g.now.limit in
+    let held = search_is g h _ c.requires ls many limit c.write_leaves.ensures.value c.new.ensures c.solve-counts.ensures.value in
     record {
       same = search rules;
       held = held;

@@ -1,4 +1,6 @@
-// A place of a list, so that no function asks for room.
+// A place of a list, read or written, so that no function asks for room.
+#![tactic(auto)]
+
 ghost use Rattle.std.specs.Prelude.{◌≡◌, get_or, set};
 
 // Past the list's end: the default.
