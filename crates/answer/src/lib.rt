@@ -20,7 +20,7 @@ pub struct Outcome {
 
 impl Outcome {
     // The visit limit where none is stated.
-    pub const VISITS: u32 = 1000000;
+    pub const VISITS: u32 = 100000;
 }
 
 // What a call answers: its outcome, or why nothing was searched.

@@ -35,7 +35,7 @@ computed ws rooms limit = call (concat_map bytes ws) rooms limit
 abbrev outcome : Row → Outcome
 outcome r = computed r.words r.rooms r.limit
 
-abbrev rooms : ℕ → ℕ → ℕ → Rooms
+abbrev pub rooms : ℕ → ℕ → ℕ → Rooms
 rooms e p m = record { edges = e; plans = p; memo = m }
 
 -- the stores of the tried list program
@@ -52,12 +52,12 @@ abbrev pub pair : ℕ → ℕ → Pair
 pair a b = record { left = a; right = b }
 
 -- a candidate: set, left plan, right plan, lead edge, kind, rows, cost
-abbrev join : ℕ → ℕ → ℕ → ℕ → ℕ → ℕ → ℕ → Plan
+abbrev pub join : ℕ → ℕ → ℕ → ℕ → ℕ → ℕ → ℕ → Plan
 join s l r lead kind rows cost =
     record { set = s; left = l; right = r; lead = lead; kind = kind; estimate = record { rows = whole rows; cost = whole cost } }
 
 -- leaf n
-abbrev scan : ℕ → ℕ → ℕ → Plan
+abbrev pub scan : ℕ → ℕ → ℕ → Plan
 scan n rows cost = join (2 ^ n) n n none32 leaf rows cost
 
 -- words, stores, limit; then answer, visits, chosen plan, edges, plans, memo entries, pairs
@@ -107,7 +107,7 @@ abbrev outer_then_inner : List ℕ
 outer_then_inner = 5 ∷ 24 ∷ 3 ∷ 104 ∷ 3 ∷ 140 ∷ 9 ∷ 4 ∷ 0 ∷ 1 ∷ 9 ∷ 4 ∷ 1 ∷ 1 ∷ 3 ∷ 0 ∷ 0 ∷ 1 ∷ 9 ∷ 4 ∷ 2 ∷ 1 ∷ 0 ∷ 0 ∷ 1 ∷ 2 ∷ 32768 ∷ 0 ∷ 2 ∷ 16384 ∷ 1 ∷ 2 ∷ 8192 ∷ 1 ∷ 2 ∷ 1 ∷ 2 ∷ 3 ∷ []
 
 -- A with other selectivities: the second candidate of all leaves is cheaper, and takes the first one's place
-abbrev replaced : List ℕ
+abbrev pub replaced : List ℕ
 replaced = 5 ∷ 24 ∷ 2 ∷ 104 ∷ 4 ∷ 128 ∷ 9 ∷ 4 ∷ 0 ∷ 1 ∷ 9 ∷ 8 ∷ 1 ∷ 2 ∷ 0 ∷ 0 ∷ 0 ∷ 1 ∷ 9 ∷ 16 ∷ 3 ∷ 1 ∷ 0 ∷ 0 ∷ 1 ∷ 1 ∷ 16384 ∷ 0 ∷ 2 ∷ 65536 ∷ 2 ∷ 2 ∷ 1 ∷ 2 ∷ 3 ∷ 4 ∷ []
 
 -- 0 Inner (1 RightOuter 2), which is not turned around; a candidate against its lead edge; leaves without columns; one predicate on two joins
@@ -127,7 +127,7 @@ abbrev right_conflict : List ℕ
 right_conflict = 5 ∷ 24 ∷ 5 ∷ 104 ∷ 10 ∷ 164 ∷ 9 ∷ 48 ∷ 0 ∷ 1 ∷ 9 ∷ 16 ∷ 1 ∷ 1 ∷ 9 ∷ 64 ∷ 2 ∷ 1 ∷ 5 ∷ 0 ∷ 0 ∷ 2 ∷ 0 ∷ 0 ∷ 2 ∷ 3 ∷ 32768 ∷ 3 ∷ 1 ∷ 32768 ∷ 4 ∷ 0 ∷ 65536 ∷ 4 ∷ 2 ∷ 65536 ∷ 6 ∷ 3 ∷ 65536 ∷ 9 ∷ 1 ∷ 100 ∷ 101 ∷ 102 ∷ 101 ∷ 102 ∷ 102 ∷ 100 ∷ 102 ∷ 102 ∷ 100 ∷ []
 
 -- an edge one of whose sides is in two classes merges nothing
-abbrev side_apart : List ℕ
+abbrev pub side_apart : List ℕ
 side_apart = 5 ∷ 24 ∷ 2 ∷ 104 ∷ 6 ∷ 128 ∷ 9 ∷ 64 ∷ 0 ∷ 1 ∷ 9 ∷ 256 ∷ 1 ∷ 1 ∷ 9 ∷ 256 ∷ 2 ∷ 1 ∷ 4 ∷ 0 ∷ 0 ∷ 0 ∷ 0 ∷ 0 ∷ 0 ∷ 2 ∷ 32768 ∷ 3 ∷ 1 ∷ 32768 ∷ 4 ∷ 2 ∷ 100 ∷ 101 ∷ 102 ∷ 100 ∷ 100 ∷ 102 ∷ []
 
 -- a cross product's edge leads, and another edge has a predicate: kind 0

@@ -10,6 +10,7 @@ pub mod KeptSamples
 pub mod PlanRuleSamples
 pub mod OpenRuleSamples
 pub mod TriedListSamples
+pub mod LimitSamples
 -- Laws and theorems.
 pub mod ListLaws
 pub mod AllLaws
@@ -41,3 +42,5 @@ pub mod OutcomeLaws
 pub mod OpenSheetLaws
 pub mod OpenRuleLaws
 pub mod RecordSetLaws
+pub mod VisitLimitSearch
+pub mod VisitLimitLaws

@@ -5,8 +5,7 @@ use Prim.Native.String.{String}
 use Prim.Native.String as string
 use Rattle.definition.specs.Lists.{concat_map}
 use Rattle.definition.specs.Search.{Pair}
-use Rattle.definition.specs.Call.{default_limit}
-use Rattle.definition.specs.TriedList.{decimal_digits, decimal, hex_digits, line, tried_lines, tried_list}
+use Rattle.definition.specs.TriedList.{list_limit, decimal_digits, decimal, hex_digits, line, tried_lines, tried_list}
 use Rattle.definition.proofs.DocumentSamples.{computed, ample, pair, sheet_a, no_items}
 
 pub record Sample : Type 0 where
@@ -25,7 +24,7 @@ listed answer visits ps = tried_list answer visits ps
 -- what the program prints for a sheet's words
 unfoldable pub of_sheet : List ℕ → List ℕ
 unfolding computed listed
-of_sheet ws = let o = computed ws ample default_limit in listed o.answer o.visits o.tried
+of_sheet ws = let o = computed ws ample list_limit in listed o.answer o.visits o.tried
 
 -- document 01's text for sheet A; no items; a sheet that is torn; one digit and two; the largest numbers,
 -- and every hexadecimal digit

@@ -1,9 +1,9 @@
 -- The search does not read the edges' types: it is the same over the edges without them. Assumes nothing.
-use Rattle.std.specs.Prelude.{◌≡◌, List, [], ◌∷◌, ◌++◌, map, Bool, true, false, ◌&&◌, ◌||◌, length, get_or, eqb, Float}
+use Rattle.std.specs.Prelude.{◌≡◌, List, [], ◌∷◌, ◌++◌, map, Bool, true, false, ◌&&◌, ◌||◌, length, get_or, Float}
 use Rattle.std.proofs.Math.Path.{refl, ap, ap₂}
 use Rattle.std.proofs.Common.{◌∙◌}
 use Rattle.std.proofs.lemmas.List.{map-append}
-use Rattle.std.proofs.Math.Option.{Option, none, some}
+use Rattle.std.proofs.Math.Option.{some}
 use Prim.Native.Nat.{ℕ, zero, suc}
 use Rattle.std.specs.Int.Bits.{bit_or}
 use Rattle.nodeset.specs.Sets.{singleton, all_below, up_to_lowest}
@@ -12,9 +12,10 @@ use Rattle.definition.specs.Lists.{tabulate}
 use Rattle.definition.specs.Hypergraph.{Edge, no_edge, connects, has_edge, connecting_from, connecting, beyond, neighborhood, has_predicate}
 use Rattle.definition.specs.EdgeView.{edge_at, edges_of}
 use Rattle.definition.specs.Cost.{product, filtered}
-use Rattle.definition.specs.Connection.{Connection, any_predicate, candidate_kind, selectivities_of, connection_over}
+use Rattle.definition.specs.Connection.{any_predicate, candidate_kind, selectivities_of, connection_over}
 use Rattle.definition.specs.Walk.{each, try_connected, try_edge, enumerate_cmp_rec, emit_csg, emit_kept, enumerate_csg_rec, solve_from}
-use Rattle.definition.specs.Search.{Input, State, plan_at, find, kept, visit, connection_for, linked, joined, attempt, start, search}
+use Rattle.definition.specs.Search.{Input, State, plan_at, kept, visit, connection_for, attempt, start, search}
+use Rattle.definition.proofs.StepLaws.{attempt_alike}
 
 -- ---- the walk is the same for other edges with the same neighbours and connections, and for the same candidates
 
@@ -130,28 +131,11 @@ for_untyped i st a b l r =
     connection_untyped i.edges i.kinds i.selectivities (connecting (map untyped i.edges) a b) p
     ∙ ap (λ (cs : List ℕ). connection_over i.edges i.kinds i.selectivities cs p) (connecting-untyped 0 i.edges a b)
 
-linked_untyped : (i : Input) (st : State) (a b l r : ℕ) (o : Option Connection) → linked (untyped_input i) st a b l r o ≡ linked i st a b l r o
-unfolding linked
-linked_untyped i st a b l r none = refl
-linked_untyped i st a b l r (some c) = refl
-
-joined-untyped : (i : Input) (st : State) (a b : ℕ) (x y : Option ℕ) → joined (untyped_input i) st a b x y ≡ joined i st a b x y
-unfolding joined
-joined-untyped i st a b none y = refl
-joined-untyped i st a b (some l) none = refl
-joined-untyped i st a b (some l) (some r) =
-    linked_untyped i st a b l r (connection_for (untyped_input i) st.plans a b l r) ∙ ap (linked i st a b l r) (for_untyped i st a b l r)
-
-attempt-untyped : (i : Input) (a b : ℕ) (st : State) → attempt (untyped_input i) a b st ≡ attempt i a b st
-unfolding attempt
-attempt-untyped i a b st =
-    ap (λ (u : State). elim (eqb st.stop 0) [ true ↦ u | false ↦ st ]) (joined-untyped i st a b (find st.memo a) (find st.memo b))
-
 pub search-untyped : (i : Input) → search (untyped_input i) ≡ search i
 unfolding search start visit
 search-untyped i =
     from_same (map untyped i.edges) i.edges (neighbors_untyped i.edges) (edge-untyped i.edges) State kept (visit i) (attempt (untyped_input i))
-    (attempt i) (attempt-untyped i) (length i.leaves) (length i.leaves) (start i)
+    (attempt i) (attempt_alike (untyped_input i) i refl refl (for_untyped i)) (length i.leaves) (length i.leaves) (start i)
 
 -- held as lists: the list of types left out
 pub edges-untyped : (n : ℕ) (l r p s t : List ℕ) → map untyped (edges_of n l r p s t) ≡ edges_of n l r p s []

@@ -22,9 +22,9 @@ pub record Rooms : Type 0 where
 abbrev pub rooms_of : List ℕ → List ℕ → List ℕ → Rooms
 rooms_of edges plans memo = record { edges = store_length edges; plans = store_length plans; memo = store_length memo }
 
--- "Without a stated limit it is 1,000,000."
+-- Request 2026-06: "The default falls from 1,000,000 to 100,000 looks." Document 01: "Without a stated limit it is 1,000,000."
 abbrev pub default_limit : ℕ
-default_limit = 1000000
+default_limit = 100000
 
 -- "Beside its number an answer has counts of edges, plans and memo entries written, looks, and the chosen plan's number": the counts are the
 -- lengths of what is written. `tried` is written nowhere: it can be read off the plans, as the sets of those that left and right name

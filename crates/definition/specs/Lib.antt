@@ -22,5 +22,7 @@ pub mod Kept
 pub mod PlanRule
 pub mod OpenRule
 pub mod TriedList
+-- Calls under two visit limits.
+pub mod VisitLimits
 -- The walk over the edges, as the code makes it.
 pub mod EdgeWalk

@@ -2,6 +2,10 @@
 use Rattle.std.specs.Prelude.{ℕ, zero, suc, ◌+◌, ◌/◌, ◌%◌, true, false, List, [], ◌∷◌, ◌++◌, length, ltb}
 use Rattle.definition.specs.Search.{Pair}
 
+-- Request 2026-06: "The tried list program counted on the old default, so it now states 1,000,000 and prints what it printed."
+abbrev pub list_limit : ℕ
+list_limit = 1000000
+
 abbrev pub space : ℕ
 space = 32
 

@@ -2,3 +2,4 @@
 pub mod ReadBackLaws
 pub mod RuleLaws
 pub mod CallLaws
+pub mod LimitLaws

@@ -1,4 +1,5 @@
--- A call's outcome as it is read back from its answer and the lent lists: what the rules of demand 3 speak of. Definitions only.
+-- A call's outcome as it is read back from its answer and the lent lists: what the rules of demand 3 and the statements on other limits speak
+-- of. Definitions only.
 use Rattle.std.specs.Prelude.{ℕ, get_or}
 use Rattle.definition.specs.Lists.{tabulate}
 use Rattle.definition.specs.EdgeView.{edges_of}

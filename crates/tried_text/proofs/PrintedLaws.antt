@@ -9,13 +9,13 @@ use Rattle.definition.specs.Lists.{tabulate, column}
 use Rattle.definition.specs.Sheet.{Bytes, question_of, sheet_answer}
 use Rattle.definition.specs.Search.{Plan, Pair, Input}
 use Rattle.definition.specs.Kept.{Candidates}
-use Rattle.definition.specs.Call.{Rooms, Outcome, store_length, default_limit, refused_with, leaves_in, input_of, call}
+use Rattle.definition.specs.Call.{Rooms, Outcome, store_length, refused_with, leaves_in, input_of, call}
 use Rattle.definition.specs.PlanRule.{pair_in, pairs_in}
 use Rattle.definition.proofs.PlanRuleLaws.{plan_rule, call-pairs}
 use Rattle.definition.proofs.OpenRuleLaws.{open_list_rule}
 use Rattle.definition.specs.OpenRule.{OpenPart}
 use Rattle.definition.proofs.InputLaws.{leaves-counted}
-use Rattle.definition.specs.TriedList.{tried_list}
+use Rattle.definition.specs.TriedList.{list_limit, tried_list}
 use Rattle.listing.specs.Text.{pairs_of}
 use Rattle.listing.specs.TextLaws.{head_bound, lines_bound, text_length}
 use Rattle.listing.specs.ReadBack.{pairs_read}
@@ -34,7 +34,7 @@ use Rattle.tried_text.specs.Printed.{list_rooms, list_call, printed, longest_tex
 pub open_text : (bs : List ℕ) → Bytes bs → OpenText bs
 unfolding printed
 open_text bs bytes a cs others s fit =
-    sym (ap (λ (o : OpenPart). tried_list o.answer o.visits o.pairs) (open_list_rule bs bytes list_rooms default_limit a cs others s fit).1)
+    sym (ap (λ (o : OpenPart). tried_list o.answer o.visits o.pairs) (open_list_rule bs bytes list_rooms list_limit a cs others s fit).1)
 
 -- ---- the number of leaves
 
@@ -89,10 +89,10 @@ module _ (bs : List ℕ) (bytes : Bytes bs) (sr lr rr : List ℕ) where
     where
       go : (n : ℕ) → refused_with bs list_rooms ≡ n → pairs_from (leaves_passed bs) (list_call bs).plans sr lr rr ≡ pairs_in (leaves_in bs) (list_call bs).plans
       go zero e =
-          candidates_printed (input_of (question_of bs) list_rooms default_limit) _ (list_call bs).plans
-          (plan_rule bs bytes list_rooms default_limit (ap (λ (n : ℕ). eqb n 0) e)).candidates (leaves_passed bs)
+          candidates_printed (input_of (question_of bs) list_rooms list_limit) _ (list_call bs).plans
+          (plan_rule bs bytes list_rooms list_limit (ap (λ (n : ℕ). eqb n 0) e)).candidates (leaves_passed bs)
           (sym (leaves_passed_lem bs (not_refused bs list_rooms e).0) ∙ sym (leaves-counted (question_of bs).items)) h sr lr rr
-          ∙ call-pairs bs bytes list_rooms default_limit
+          ∙ call-pairs bs bytes list_rooms list_limit
       go (suc k) e = rw (refused_plans k e) (none_printed (leaves_passed bs) (leaves_in bs))
 
 -- ---- the text
@@ -132,12 +132,12 @@ fresh-rooms z = refl
 
 -- from the lists lent, h, what the call answers, r, and leaves in the lists, l
 module _ (bs : List ℕ) (bytes : Bytes bs) {z : Float} (h l : Lent) (lent : h ≡ fresh z) {r : Report}
-    (answer : r ≡ reported (call bs (rooms_in h) default_limit)) (lists : l ≡ holds (call bs (rooms_in h) default_limit) h) where
-  same_call : call bs (rooms_in h) default_limit ≡ list_call bs
-  same_call = ap (λ (rooms : Rooms). call bs rooms default_limit) (ap rooms_in lent ∙ fresh-rooms z)
+    (answer : r ≡ reported (call bs (rooms_in h) list_limit)) (lists : l ≡ holds (call bs (rooms_in h) list_limit) h) where
+  same_call : call bs (rooms_in h) list_limit ≡ list_call bs
+  same_call = ap (λ (rooms : Rooms). call bs rooms list_limit) (ap rooms_in lent ∙ fresh-rooms z)
 
   few_plans : length (list_call bs).plans ≤ 1088
-  few_plans = call_few bs bytes list_rooms default_limit
+  few_plans = call_few bs bytes list_rooms list_limit
 
   left : l ≡ holds (list_call bs) (fresh z)
   left = lists ∙ ap₂ (λ (o : Outcome) (x : Lent). holds o x) same_call lent

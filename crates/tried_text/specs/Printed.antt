@@ -2,10 +2,10 @@
 use Rattle.std.specs.Prelude.{◌≡◌, true, List, ℕ, zero, suc, ◌-◌, replicate}
 use Rattle.std.proofs.lemmas.List.Edits.{sets}
 use Rattle.definition.specs.Sheet.{Bytes, sheet_answer}
-use Rattle.definition.specs.Call.{Rooms, Outcome, default_limit, accepted, leaves_in, call}
+use Rattle.definition.specs.Call.{Rooms, Outcome, accepted, leaves_in, call}
 use Rattle.definition.specs.PlanRule.{pairs_in, CallPlanRule}
 use Rattle.definition.specs.OpenRule.{SameOpenBytes, SelectivitiesFit}
-use Rattle.definition.specs.TriedList.{tried_list}
+use Rattle.definition.specs.TriedList.{list_limit, tried_list}
 use Rattle.listing.specs.Text.{pairs_of, side_sets}
 use Rattle.answer.specs.declared.Report.{Report}
 
@@ -13,9 +13,9 @@ use Rattle.answer.specs.declared.Report.{Report}
 abbrev pub list_rooms : Rooms
 list_rooms = record { edges = 256; plans = 1088; memo = 512 }
 
--- "no stated limit"
+-- document 01 has "no stated limit"; with request 2026-06 it is stated
 abbrev pub list_call : List ℕ → Outcome
-list_call bs = call bs list_rooms default_limit
+list_call bs = call bs list_rooms list_limit
 
 -- "answer number, trials, looks; then per trial its number from 0, left and right set", the pairs read off the plans
 unfoldable pub printed : List ℕ → List ℕ
@@ -32,7 +32,7 @@ OpenText bs = accepted bs list_rooms ≡ true → (cs : List ℕ) → Bytes cs �
 
 -- the plan rule for the plans behind the printed trials: "Whichever answer ends the search, for each set of two or more leaves that has a plan"
 abbrev pub KeptBehind : List ℕ → Type 0
-KeptBehind bs = accepted bs list_rooms ≡ true → CallPlanRule bs list_rooms default_limit (list_call bs)
+KeptBehind bs = accepted bs list_rooms ≡ true → CallPlanRule bs list_rooms list_limit (list_call bs)
 
 -- ---- the parts of the code
 

@@ -11,6 +11,9 @@ use planner::{EdgeArrays, ListArrays};
 use sheet::Sheet;
 use store::Lists;
 
+// The limit that the tried list states: with it the texts are those printed while it was the default.
+const LIMIT: u32 = 1000000;
+
 // The number of leaves of a sheet that passes the check.
 fn leaves(sheet: &[u8]) -> u32
     ensures { result ≡ leaves_passed sheet.now }
@@ -40,7 +43,7 @@ fn listed(report: Report, n: u32, lists: &Lists<'_>, out: &mut [u8]) -> Option<u
     listing::tried_list(report.answer, report.visits, &left, &right, made, out)
 }
 
-// The tried list of a sheet, from a call with 256 edges, 1,088 plans, 512 memo places and no stated limit.
+// The tried list of a sheet, from a call with 256 edges, 1,088 plans, 512 memo places and at most LIMIT visits.
 pub fn tried_text(sheet: &[u8], out: &mut [u8]) -> Option<usize>
     ensures result { result ≡ answer_for (printed sheet.now) out.old }
     ensures text { out.new ≡ written_in (printed sheet.now) out.old }
@@ -52,7 +55,7 @@ pub fn tried_text(sheet: &[u8], out: &mut [u8]) -> Option<usize>
     let mut list_arrays = ListArrays::<1088, 512>::new(0, 0, 0.0);
     let mut edges = edge_arrays.lend();
     let mut lists = list_arrays.lend();
-    let report = Report::from(planner::plan_default(sheet, &mut edges, &mut lists));
+    let report = Report::from(planner::plan(sheet, LIMIT, &mut edges, &mut lists));
     let n = leaves(sheet);
     listed(report, n, &lists, out)
 }
