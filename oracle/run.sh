@@ -12,14 +12,15 @@ compare)
     ;;
 vectors)
     made="$here/target/vectors"
-    "$here/target/oracle" vectors "$made/unchanged"
+    "$here/target/oracle" vectors "$made/unchanged" "$here/../samples"
     # The counted copy writes the same, and holds the visits in it to its own.
-    "$here/target/oracle-counted" vectors "$made/counted" >/dev/null
-    for file in calls.bin checks.bin; do
+    "$here/target/oracle-counted" vectors "$made/counted" "$here/../samples" >/dev/null
+    for file in calls.bin checks.bin texts.bin; do
         cmp "$made/unchanged/$file" "$made/counted/$file"
     done
     cp "$made/unchanged/calls.bin" "$here/../crates/call_vectors/stdin"
     cp "$made/unchanged/checks.bin" "$here/../crates/sheet_vectors/stdin"
+    cp "$made/unchanged/texts.bin" "$here/../crates/sample_texts/stdin"
     ;;
 replay)
     seed=${2:-$(date +%s)}

@@ -2,7 +2,7 @@
 
 use std::path::Path;
 
-use crate::cases::{DEFAULT_LIMIT, even_lists};
+use crate::cases::{LIST_LIMIT, even_lists};
 use crate::outcome::answer::POURED;
 use crate::random::Random;
 use crate::random_sheets::random_sheet;
@@ -49,8 +49,9 @@ fn clique(leaves: u32) -> Sheet {
 /// Random sheets of at least 4 leaves that get a plan, of every kind of join.
 fn random_sheets() -> Vec<Sheet> {
     let mut random = Random::new(SEED);
+    // The limit by which the bench's sheets were first chosen.
     let suits = |sheet: &Sheet| {
-        let outcome = call(&sheet.bytes(), &even_lists(256, 16_384, MEMO - 1), DEFAULT_LIMIT);
+        let outcome = call(&sheet.bytes(), &even_lists(256, 16_384, MEMO - 1), LIST_LIMIT);
         sheet.leaves() >= 4 && outcome.answer == POURED
     };
     std::iter::repeat_with(|| random_sheet(12, &mut random))

@@ -41,6 +41,31 @@ pub fn star(leaves: u32, kind: u32) -> Sheet {
     left_deep(leaves, 1000, kind, |leaf| [0, leaf])
 }
 
+/// Leaf 0, and around it `spokes` chains of `length` leaves: each chain is
+/// joined with leaf 0 by a predicate on leaf 0 and the whole chain.
+fn spoked_star(spokes: u32, length: u32) -> Sheet {
+    let column = |leaf| 1000 + leaf;
+    let mut sheet = Sheet::default();
+    sheet.add_leaf(100, &[column(0)]);
+    for spoke in 0..spokes {
+        let first = 1 + spoke * length;
+        sheet.add_leaf(100, &[column(first)]);
+        let mut columns = vec![column(0), column(first)];
+        for leaf in first + 1..first + length {
+            sheet.add_leaf(100, &[column(leaf)]);
+            sheet.add_join(INNER, &[(655, [column(leaf - 1), column(leaf)])]);
+            columns.push(column(leaf));
+        }
+        sheet.add_join(INNER, &[(655, columns)]);
+    }
+    sheet
+}
+
+/// The sheet of samples/wide_star.sheet. Its search ends after 159,076 visits.
+pub fn wide_star() -> Sheet {
+    spoked_star(7, 4)
+}
+
 /// Leaf n joined with leaf 0 and leaf n - 1, by a range of three predicates
 /// that overlaps its neighbours' ranges.
 pub fn overlapping(leaves: u32) -> Sheet {

@@ -4,8 +4,11 @@ use crate::outcome::Outcome;
 use crate::random::Random;
 use crate::reference::{ListLengths, call};
 
-/// Limit where none is stated.
-pub const DEFAULT_LIMIT: u32 = 1_000_000;
+/// Limit where none is stated (document 01's, changed by request 2026-06).
+pub const DEFAULT_LIMIT: u32 = 100_000;
+
+/// The limit that the tried list's program states.
+pub const LIST_LIMIT: u32 = 1_000_000;
 
 #[derive(Clone, Copy, Debug, PartialEq, Eq)]
 pub struct Case {
@@ -31,9 +34,9 @@ pub fn even_lists(edges: usize, plans: usize, memo: usize) -> ListLengths {
     std::array::from_fn(|list| length(list) as u64)
 }
 
-/// The stores of document 01's tried list, and no stated limit.
+/// The stores of document 01's tried list, and the limit that its program states.
 pub fn ample() -> Case {
-    Case { lists: even_lists(256, 1088, 512), limit: DEFAULT_LIMIT }
+    Case { lists: even_lists(256, 1088, 512), limit: LIST_LIMIT }
 }
 
 /// What a sheet needs: entries of each store, its leaves, and its visits.

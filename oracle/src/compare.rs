@@ -4,8 +4,8 @@ use std::collections::HashMap;
 
 use optd_core::hypergraph;
 
-use crate::boundary::{boundary_sheets, chain, overlapping, star};
-use crate::cases::{Case, ample, cases};
+use crate::boundary::{boundary_sheets, chain, overlapping, star, wide_star};
+use crate::cases::{Case, DEFAULT_LIMIT, LIST_LIMIT, ample, cases};
 use crate::damage::damaged;
 use crate::outcome::answer::{FULL_HOPPER, FULL_SHELF, SMALL_CRATE, SPENT_SHIFT};
 use crate::outcome::{MemoEntry, Outcome, Plan};
@@ -72,15 +72,13 @@ impl Tally {
         Some(published)
     }
 
-    /// Holds calls with stores and limits around the sheet's need to the Rust.
-    fn other_calls(&mut self, sheet: &Sheet, random: &mut Random) {
-        let Some(published) = self.sheet(sheet, &WIDE) else {
-            return;
-        };
+    /// Holds calls with other stores and limits to what the Rust made of the
+    /// sheet.
+    fn other_calls(&mut self, sheet: &Sheet, published: &Published, cases: &[Case]) {
         let bytes = sheet.bytes();
-        for case in cases(&bytes, WIDE, random) {
+        for case in cases {
             let outcome = call(&bytes, &case.lists, case.limit);
-            let holds = follows(&outcome, &published, &case);
+            let holds = follows(&outcome, published, case);
             self.hold_other(holds, "a call with other stores or limit", sheet);
         }
     }
@@ -227,7 +225,8 @@ fn boundary() -> Tally {
     tally
 }
 
-/// Many leaves: chains, stars, overlapping ranges.
+/// Many leaves: chains, stars, overlapping ranges; the wide star, also within
+/// the limit where none is stated and within the tried list's.
 fn large() -> Tally {
     let mut tally = Tally::default();
     let wide = Case { limit: 10_000_000, ..WIDE };
@@ -239,6 +238,11 @@ fn large() -> Tally {
         tally.sheet(&overlapping(leaves), &wide);
     }
     tally.sheet(&chain(64, 5, INNER), &wide);
+    let star = wide_star();
+    if let Some(published) = tally.sheet(&star, &wide) {
+        let limits = [DEFAULT_LIMIT, LIST_LIMIT].map(|limit| Case { limit, ..ample() });
+        tally.other_calls(&star, &published, &limits);
+    }
     tally
 }
 
@@ -284,7 +288,10 @@ fn stores_and_limits() -> Tally {
     let mut random = Random::new(SEED + 1);
     for _ in 0..SAMPLED_SHEETS {
         let sheet = random_sheet(8, &mut random);
-        tally.other_calls(&sheet, &mut random);
+        if let Some(published) = tally.sheet(&sheet, &WIDE) {
+            let cases = cases(&sheet.bytes(), WIDE, &mut random);
+            tally.other_calls(&sheet, &published, &cases);
+        }
     }
     tally
 }

@@ -25,8 +25,8 @@ use std::io::Read;
 use std::path::Path;
 use std::process::ExitCode;
 
-const USAGE: &str = "usage: oracle compare | survey | vectors FOLDER | fresh FOLDER SEED | plan [WORD...] \
-                     | bench-sheets FOLDER | rounds";
+const USAGE: &str = "usage: oracle compare | survey | vectors FOLDER SAMPLES | fresh FOLDER SEED \
+                     | plan [WORD...] | bench-sheets FOLDER | rounds";
 
 /// The sheet given as words, or else on standard input as bytes.
 fn sheet_bytes(words: &[String]) -> Result<Vec<u8>, Box<dyn Error>> {
@@ -47,8 +47,8 @@ fn main() -> Result<ExitCode, Box<dyn Error>> {
             return Ok(ExitCode::from(u8::from(compare::compare() > 0)));
         }
         Some((command, [])) if command == "survey" => survey::print_survey(),
-        Some((command, [folder])) if command == "vectors" => {
-            vectors::write_vectors(Path::new(folder))?;
+        Some((command, [folder, samples])) if command == "vectors" => {
+            vectors::write_vectors(Path::new(folder), Path::new(samples))?;
         }
         Some((command, [folder, seed])) if command == "fresh" => {
             vectors::write_fresh(Path::new(folder), seed.parse()?)?;

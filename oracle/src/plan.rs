@@ -1,6 +1,6 @@
 //! Prints what the published Rust makes of one sheet.
 
-use crate::cases::DEFAULT_LIMIT;
+use crate::cases::LIST_LIMIT;
 use crate::compare::WIDE;
 use crate::outcome::{Lists, Outcome};
 use crate::published;
@@ -10,7 +10,8 @@ use crate::reference::check::check;
 /// Prints answer and visits of the reference and, where the search ends, the
 /// lists of the published Rust.
 pub fn print_plan(bytes: &[u8]) {
-    let outcome = call(bytes, &WIDE.lists, DEFAULT_LIMIT);
+    // Of the two limits the longer, so that more searches end.
+    let outcome = call(bytes, &WIDE.lists, LIST_LIMIT);
     print_answer(&outcome);
     match check(bytes) {
         Ok(sheet) if outcome.ended() => print_lists(&published::run(&sheet).lists),

@@ -1,11 +1,12 @@
-//! Vectors to replay: whole calls, and sheet checks. README.md has the form.
+//! Vectors to replay: whole calls, sheet checks, and texts of the tried list's
+//! program. README.md has the form.
 
 use std::fs;
 use std::io;
-use std::path::Path;
+use std::path::{Path, PathBuf};
 
-use crate::boundary::{against_lead, boundary_sheets, overlapping, star};
-use crate::cases::{Case, ample, cases};
+use crate::boundary::{against_lead, boundary_sheets, overlapping, star, wide_star};
+use crate::cases::{Case, DEFAULT_LIMIT, LIST_LIMIT, ample, cases};
 use crate::compare::{WIDE, follows};
 use crate::damage::damaged;
 use crate::outcome::{Lists, Outcome, answer};
@@ -38,10 +39,15 @@ impl Record {
     /// A record that begins with a sheet, filled up with zeros to whole words.
     fn of_sheet(sheet: &[u8]) -> Self {
         let mut record = Record(vec![0; 4]);
-        record.words(&[sheet.len() as u32]);
-        record.0.extend(sheet);
-        record.0.resize(record.0.len().next_multiple_of(4), 0);
+        record.bytes(sheet);
         record
+    }
+
+    /// Bytes under their number, filled up with zeros to whole words.
+    fn bytes(&mut self, bytes: &[u8]) {
+        self.words(&[bytes.len() as u32]);
+        self.0.extend(bytes);
+        self.0.resize(self.0.len().next_multiple_of(4), 0);
     }
 
     fn words(&mut self, words: &[u32]) {
@@ -86,6 +92,18 @@ fn call_record(sheet: &[u8], case: &Case, outcome: &Outcome) -> Vec<u8> {
     record.finish()
 }
 
+/// Holds a call to the Rust where the search ends, within the case or within
+/// the wide one, and gives whether it was held.
+fn hold(bytes: &[u8], case: &Case, outcome: &Outcome) -> bool {
+    let ends = outcome.ended() || call(bytes, &WIDE.lists, WIDE.limit).ended();
+    if ends {
+        let sheet = check(bytes).expect("a search that ends is over an accepted sheet");
+        let published = published::run(&sheet);
+        assert!(follows(outcome, &published, case), "the Rust differs on {:?}", sheet.words());
+    }
+    ends
+}
+
 /// The call vectors, and counts of what is in them.
 #[derive(Default)]
 struct Calls {
@@ -104,7 +122,7 @@ impl Calls {
         let fits = case.lists.iter().zip(ample().lists).all(|(length, most)| *length <= most);
         assert!(fits, "lists fit a replaying program's arrays");
         let outcome = call(sheet, &case.lists, case.limit);
-        self.hold(sheet, case, &outcome);
+        self.held += usize::from(hold(sheet, case, &outcome));
         self.unequal += usize::from(case.is_unequal());
         self.answers[outcome.answer as usize] += 1;
         self.with_candidates += usize::from(!outcome.lists.candidates().is_empty());
@@ -120,16 +138,6 @@ impl Calls {
             let (all, not_inner) = &mut self.kinds[plan.kind as usize];
             *all += 1;
             *not_inner += usize::from(!has_inner_rows(&sheet, lists, plan));
-        }
-    }
-
-    /// Holds a call to the Rust, if the Rust can end on its sheet.
-    fn hold(&mut self, bytes: &[u8], case: &Case, outcome: &Outcome) {
-        if call(bytes, &WIDE.lists, WIDE.limit).ended() {
-            let sheet = check(bytes).expect("a search that ends is over an accepted sheet");
-            let published = published::run(&sheet);
-            assert!(follows(outcome, &published, case), "the Rust differs on {:?}", sheet.words());
-            self.held += 1;
         }
     }
 
@@ -163,6 +171,19 @@ fn random_sheets(count: usize, leaves: usize, random: &mut Random) -> Vec<Sheet>
     std::iter::repeat_with(|| random_sheet(leaves, random)).filter(ends).take(count).collect()
 }
 
+/// The wide star is stopped by the limit where none is stated, and ends within
+/// the limit that the tried list's program states.
+fn add_wide_star(calls: &mut Calls) {
+    let sheet = wide_star().bytes();
+    let limits = [(DEFAULT_LIMIT, answer::SPENT_SHIFT), (LIST_LIMIT, answer::POURED)];
+    for (limit, expected) in limits {
+        let case = Case { limit, ..ample() };
+        let found = call(&sheet, &case.lists, limit).answer;
+        assert_eq!(found, expected, "the wide star within {limit} visits");
+        calls.add(&sheet, &case);
+    }
+}
+
 fn calls() -> Calls {
     let mut random = Random::new(CALLS_SEED);
     let mut calls = Calls::default();
@@ -187,6 +208,7 @@ fn calls() -> Calls {
     }
     calls.add(&overlapping(9).bytes(), &ample());
     calls.add(&star(30, INNER).bytes(), &Case { limit: 500, ..ample() });
+    add_wide_star(&mut calls);
     assert!(calls.answers.iter().all(|count| *count > 0), "all answers occur");
     assert!(
         calls.kinds[1..=7].iter().all(|(_, not_inner)| *not_inner > 0),
@@ -226,10 +248,44 @@ fn checks() -> Vec<Vec<u8>> {
     sheets.into_iter().map(record).collect()
 }
 
-/// Writes the records under a line that says how they were made.
-fn write(path: &Path, what: &str, seed: u64, records: &[Vec<u8>]) -> io::Result<()> {
+/// The sample sheets' files, by name.
+fn sample_files(samples: &Path) -> io::Result<Vec<PathBuf>> {
+    let mut files: Vec<PathBuf> =
+        fs::read_dir(samples)?.map(|entry| Ok(entry?.path())).collect::<io::Result<_>>()?;
+    files.retain(|file| file.extension().is_some_and(|extension| extension == "sheet"));
+    files.sort();
+    Ok(files)
+}
+
+/// What the tried list's program has to print of a sheet.
+fn tried_list(sheet: &[u8]) -> String {
+    let outcome = call(sheet, &ample().lists, ample().limit);
+    hold(sheet, &ample(), &outcome);
+    let Outcome { answer, visits, lists } = outcome;
+    let mut text = format!("{answer} {} {visits}\n", lists.candidates().len());
+    for (number, (left, right)) in lists.tried().enumerate() {
+        text += &format!("{number} {left:016x} {right:016x}\n");
+    }
+    text
+}
+
+/// The sample sheets, each with the text of its tried list.
+fn texts(samples: &Path) -> io::Result<Vec<Vec<u8>>> {
+    let wide = fs::read(samples.join("wide_star.sheet"))?;
+    assert!(wide == wide_star().bytes(), "samples/wide_star.sheet is the wide star");
+    let record = |file: PathBuf| {
+        let sheet = fs::read(file)?;
+        let mut record = Record::of_sheet(&sheet);
+        record.bytes(tried_list(&sheet).as_bytes());
+        Ok(record.finish())
+    };
+    sample_files(samples)?.into_iter().map(record).collect()
+}
+
+/// Writes the records under a line that says how they were made, and from what.
+fn write(path: &Path, what: &str, from: &str, records: &[Vec<u8>]) -> io::Result<()> {
     let count = records.len();
-    let line = format!("{what}: {count} records, made by oracle/run.sh vectors, seed {seed}\n");
+    let line = format!("{what}: {count} records, made by oracle/run.sh vectors, {from}\n");
     let contents = [line.as_bytes(), &records.concat()].concat();
     fs::write(path, &contents)?;
     println!("{}: {count} records, {} bytes", path.display(), contents.len());
@@ -238,7 +294,7 @@ fn write(path: &Path, what: &str, seed: u64, records: &[Vec<u8>]) -> io::Result<
 
 fn write_calls(folder: &Path, seed: u64, calls: &Calls) -> io::Result<()> {
     fs::create_dir_all(folder)?;
-    write(&folder.join("calls.bin"), "calls", seed, &calls.records)?;
+    write(&folder.join("calls.bin"), "calls", &format!("seed {seed}"), &calls.records)?;
     println!(
         "  {} with trials, {} with unequal lists, {} held to the Rust, by answer {:?}",
         calls.with_candidates, calls.unequal, calls.held, calls.answers
@@ -247,9 +303,12 @@ fn write_calls(folder: &Path, seed: u64, calls: &Calls) -> io::Result<()> {
     Ok(())
 }
 
-pub fn write_vectors(folder: &Path) -> io::Result<()> {
+/// `samples`: the folder of the sample sheets.
+pub fn write_vectors(folder: &Path, samples: &Path) -> io::Result<()> {
     write_calls(folder, CALLS_SEED, &calls())?;
-    write(&folder.join("checks.bin"), "sheet checks", CHECKS_SEED, &checks())
+    let seed = format!("seed {CHECKS_SEED}");
+    write(&folder.join("checks.bin"), "sheet checks", &seed, &checks())?;
+    write(&folder.join("texts.bin"), "tried lists", "of samples/*.sheet", &texts(samples)?)
 }
 
 pub fn write_fresh(folder: &Path, seed: u64) -> io::Result<()> {
