@@ -1,3 +1,6 @@
 -- Laws that only the proofs of this crate use.
 pub mod Laws
+pub mod CrossedLaws
+pub mod PartedLaws
+pub mod LeafLoops
 pub mod StandingLaws

@@ -3,6 +3,8 @@
 
 ghost use Rattle.std.specs.Prelude.{◌≡◌, false, ℕ, length};
 ghost use Rattle.definition.specs.Connected.{own_classes, one_class, met, merge, merges, round, rounds, connected};
+ghost use Rattle.connectivity.specs.Crossed.{crosses, is_crossed};
+ghost use Rattle.connectivity.specs.Parted.{Parted};
 
 // The left and the right sides of the edges so far, each edge's at one place of the two slices.
 // kept: parallel lists, as the caller lends them.
@@ -35,28 +37,32 @@ impl Classes {
         nodeset::is_subset(s, self.0[nodeset::nodeset_min(s).0 as usize])
     }
 
-    // The union of the classes that meet s.
+    // The union of the classes that meet s, each found by the lowest of its leaves in s.
     fn met(&self, s: u64) -> u64
+        requires { Parted self.now.0 }
         ensures { result ≡ met s 0 self.now.0 }
     {
         let mut all = 0;
-        for p in self.0.iter() {
-            if !nodeset::is_disjoint(*p, s) {
-                all |= *p;
-            }
+        let mut left = s;
+        while left != 0 {
+            let class = self.0[nodeset::nodeset_min(left).0 as usize];
+            all |= class;
+            left = nodeset::difference(left, class);
         }
         all
     }
 
-    // The classes that meet s become one.
+    // The classes that meet s become one: it is the class of each of its leaves.
     fn merge(&mut self, s: u64)
+        requires { Parted self.old.0 }
         ensures { self.new.0 ≡ merge s self.old.0 }
     {
         let all = self.met(s);
-        for p in self.0.iter_mut() {
-            if !nodeset::is_disjoint(*p, s) {
-                *p = all;
-            }
+        let mut left = all;
+        while left != 0 {
+            let leaf = nodeset::nodeset_min(left);
+            self.0[leaf.0 as usize] = all;
+            left = nodeset::difference(left, nodeset::nodeset_singleton(leaf));
         }
     }
 
@@ -71,6 +77,7 @@ impl Classes {
 
     // One round over the edges. Whether any merged.
     fn pass(&mut self, edges: &EdgeSides<'_>, skip: u64) -> bool
+        requires { Parted self.old.0 }
         ensures after { self.new.0 ≡ round skip edges.now.left.now edges.now.right.now self.old.0 }
         ensures same { result ≡ false → self.new.0 ≡ self.old.0 }
     {
@@ -86,6 +93,7 @@ impl Classes {
 
     // Rounds over the edges until nothing changes.
     fn settle(&mut self, edges: &EdgeSides<'_>, skip: u64)
+        requires { Parted self.old.0 }
         ensures { self.new.0 ≡ rounds (length edges.now.left.now) skip edges.now.left.now edges.now.right.now self.old.0 }
     {
         let n = edges.left.len();
@@ -97,7 +105,26 @@ impl Classes {
     }
 }
 
-// Whether a and b are connected by the edges, those whose union is skip passed over.
+// Whether the leaves u of an edge are some of s and some others.
+fn crosses(s: u64, u: u64) -> bool
+    ensures { result ≡ crosses s u }
+{
+    !nodeset::is_disjoint(u, s) && !nodeset::is_subset(u, s)
+}
+
+// Whether one of the edges crosses s.
+fn is_crossed(edges: &EdgeSides<'_>, s: u64) -> bool
+    ensures { result ≡ is_crossed s edges.now.left.now edges.now.right.now }
+{
+    edges
+        .left
+        .iter()
+        .zip(edges.right)
+        .any(|(l, r)| crosses(s, *l | *r))
+}
+
+// Whether a and b are connected by the edges, those whose union is skip passed over. Where b has no leaf of a, and no edge has leaves in b and
+// others, they are not, and no classes are made.
 pub fn connected(edges: &EdgeSides<'_>, a: u64, b: u64, skip: u64) -> bool
     ensures { result ≡ connected edges.now.left.now edges.now.right.now a b skip }
 {
@@ -105,6 +132,9 @@ pub fn connected(edges: &EdgeSides<'_>, a: u64, b: u64, skip: u64) -> bool
         return false;
     }
     if b == 0 {
+        return false;
+    }
+    if nodeset::is_disjoint(a, b) && !is_crossed(edges, b) {
         return false;
     }
     let mut classes = Classes::own();

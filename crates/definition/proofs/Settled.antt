@@ -36,7 +36,7 @@ or-sub a b c p q i = subst (λ (x : ℕ). x ≤ bit c i) (sym (bit-or a b i)) (m
 one_in : (a b i : ℕ) → In a b → bit a i ≡ 1 → bit b i ≡ 1
 one_in a b i s e = omega (arith, s i, bit-lt b i)
 
-meets : (p u i : ℕ) → bit p i ≡ 1 → bit u i ≡ 1 → disjoint p u ≡ false
+pub meets : (p u i : ℕ) → bit p i ≡ 1 → bit u i ≡ 1 → disjoint p u ≡ false
 meets p u i e f =
     ne_eqb (bit_and p u) 0
     (λ z. let k : bit (bit_and p u) i ≡ 1 = bit-and p u i ∙ ap₂ min e f in let n : bit (bit_and p u) i ≡ 0 = ap (λ (x : ℕ). bit x i) z ∙ bit_empty i in omega arith)
@@ -51,7 +51,7 @@ met_base s t (p ∷ ps) = sub_trans t (elim (disjoint p s) [ true ↦ t | false 
     step true = λ i. le_refl (bit t i)
     step false = sub-or_l t p
 
-met_has : (s t : ℕ) (ps : List ℕ) (i : ℕ) → disjoint (get_or ps i 0) s ≡ false → In (get_or ps i 0) (met s t ps)
+pub met_has : (s t : ℕ) (ps : List ℕ) (i : ℕ) → disjoint (get_or ps i 0) s ≡ false → In (get_or ps i 0) (met s t ps)
 unfolding met
 met_has s t [] i e = λ j. omega (arith, bit_empty j)
 met_has s t (p ∷ ps) zero e =
@@ -59,7 +59,7 @@ met_has s t (p ∷ ps) zero e =
     (subst (λ (b : Bool). In p (elim b [ true ↦ t | false ↦ bit_or t p ])) (sym e) (sub-or_r t p)) (met_base s (elim (disjoint p s) [ true ↦ t | false ↦ bit_or t p ]) ps)
 met_has s t (p ∷ ps) (suc i) e = met_has s (elim (disjoint p s) [ true ↦ t | false ↦ bit_or t p ]) ps i e
 
-get_or-merge : (s : ℕ) (ps : List ℕ) (i : ℕ) → get_or (merge s ps) i 0 ≡ (elim (disjoint (get_or ps i 0) s) [ true ↦ get_or ps i 0 | false ↦ met s 0 ps ])
+pub get_or-merge : (s : ℕ) (ps : List ℕ) (i : ℕ) → get_or (merge s ps) i 0 ≡ (elim (disjoint (get_or ps i 0) s) [ true ↦ get_or ps i 0 | false ↦ met s 0 ps ])
 unfolding merge
 get_or-merge s ps i =
     let f : ℕ → ℕ = λ p. elim (disjoint p s) [ true ↦ p | false ↦ met s 0 ps ] in
@@ -151,7 +151,7 @@ joins l r ps hl hr el er =
 
 -- ---- rounds
 -- every set below 2 ^ 64 that lies in one class of ps does so in qs
-abbrev Grown : List ℕ → List ℕ → Type 0
+abbrev pub Grown : List ℕ → List ℕ → Type 0
 Grown ps qs = (u : ℕ) → u < 2 ^ 64 → one_class u ps ≡ true → one_class u qs ≡ true
 
 abbrev Small : List ℕ → Type 0
@@ -210,7 +210,7 @@ step_grown skip l r ps u h e = go (merges skip l r ps)
     go true = keeps (bit_or l r) u ps h e
     go false = e
 
-round_grown : (skip : ℕ) (ls rs ps : List ℕ) → Grown ps (round skip ls rs ps)
+pub round_grown : (skip : ℕ) (ls rs ps : List ℕ) → Grown ps (round skip ls rs ps)
 unfolding round after
 round_grown skip [] rs ps u h e = e
 round_grown skip (l ∷ ls) [] ps u h e = e

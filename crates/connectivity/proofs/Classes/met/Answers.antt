@@ -1,24 +1,26 @@
-use mathlib.Core.Path.{sym, ◌∙◌}
-use mathlib.Core.Bool.{true, false}
-use Prim.Native.Nat.{◌<◌}
-use native.Mathlib.Omega.{arith}
-use lib.ListN.{length}
-use Rattle.connectivity.proofs.Laws.{met_one, met_none}
+use Rattle.std.proofs.Math.Facts.{Fits-lt-pow}
+use Rattle.connectivity.proofs.LeafLoops.{meeting_start, meeting_inside, meeting_next, meeting_less, meeting_end}
 use Rattle.connectivity.proofs.Classes.met.Goals as goal
-use Rattle.connectivity.proofs.Classes.met.Goals.{then-not-is_disjoint, else-not-is_disjoint}
 
-pub loop-p-preserved : goal.loop-p-preserved
-loop-p-preserved c =
-    let s = c.args.s in
-    let l = c.args.self.now.0 in
-    let o = c.loop-p in
-    let h : o.p-index < length l = omega arith in
-    let tested = sym c.is_disjoint.ensures in
-    let one = met_one s o.all l o.p-index c.if-not-is_disjoint.all h in
-    elim c.if-not-is_disjoint.branch [
-      | then-not-is_disjoint w ↦ one false (tested ∙ w.if-not-is_disjoint.true) w.all-is ∙ o.invariant
-      | else-not-is_disjoint w ↦ one true (tested ∙ w.if-not-is_disjoint.false) w.all-is ∙ o.invariant
-    ]
+pub loop-left-init : goal.loop-left-init
+loop-left-init c = meeting_start c.args.s c.args.self.now.0 c.ranges.s.fits
+
+pub bounds-self-nodeset_min : goal.bounds-self-nodeset_min
+bounds-self-nodeset_min c =
+    let o = c.loop-left in
+    rw c.nodeset_min.ensures (meeting_inside c.args.s c.args.self.now.0 c.requires o.left o.all o.invariant c.loop-left-test.true)
+
+pub loop-left-smaller : goal.loop-left-smaller
+loop-left-smaller c =
+    let o = c.loop-left in
+    rw (c.difference-left.ensures, c.nodeset_min.ensures) (meeting_less c.args.s c.args.self.now.0 c.requires o.left o.all o.invariant c.loop-left-test.true)
+
+pub loop-left-preserved : goal.loop-left-preserved
+loop-left-preserved c =
+    let o = c.loop-left in
+    rw (c.difference-left.ensures, c.nodeset_min.ensures) (meeting_next c.args.s c.args.self.now.0 c.requires o.left o.all o.invariant c.loop-left-test.true)
 
 pub returns : goal.returns
-returns c = sym (met_none c.args.s c.loop-p.all c.args.self.now.0 c.loop-p.p-index (omega arith)) ∙ c.loop-p.invariant
+returns c =
+    let o = c.loop-left in
+    meeting_end c.args.s c.args.self.now.0 c.requires o.left o.all o.invariant (Fits-lt-pow o.auto.all-fits) c.loop-left-test.false
