@@ -16,7 +16,7 @@ abbrev scan : ℕ → Leaf
 scan rows = record { rows = rows; columns = 1 }
 
 -- three leaves in a row: their rows, the two selectivities, the lengths of the plan and the memo store, the limit
-abbrev chain : List ℕ → List ℕ → ℕ → ℕ → ℕ → Input
+abbrev pub chain : List ℕ → List ℕ → ℕ → ℕ → ℕ → Input
 chain rows ss plan_room memo_room limit =
     record {
       leaves = map scan rows;
@@ -38,13 +38,13 @@ unfoldable pub after : Input → List Pair → ℕ × ℕ × List Entry
 unfolding tried
 after i ts = let st = tried i ts in (st.stop, length st.plans, st.memo)
 
-abbrev entry : ℕ → ℕ → Entry
+abbrev pub entry : ℕ → ℕ → Entry
 entry s p = record { set = s; plan = p }
 
 abbrev leaves : List Entry
 leaves = entry 1 0 ∷ entry 2 1 ∷ entry 4 2 ∷ []
 
-abbrev pair : ℕ → ℕ → Pair
+abbrev pub pair : ℕ → ℕ → Pair
 pair a b = record { left = a; right = b }
 
 abbrev even : ℕ → ℕ → Input

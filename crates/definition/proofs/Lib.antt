@@ -11,6 +11,7 @@ pub mod PlanRuleSamples
 pub mod OpenRuleSamples
 pub mod TriedListSamples
 pub mod LimitSamples
+pub mod TwoPassSamples
 -- Laws and theorems.
 pub mod ListLaws
 pub mod AllLaws
@@ -33,6 +34,10 @@ pub mod KeptLaws
 pub mod KeptMore
 pub mod MemoOrder
 pub mod KeptSearch
+pub mod TwoPassesLaws
+pub mod TwoPassesEnumerationLaws
+pub mod TwoPassesCostingLaws
+pub mod TwoPassesHeld
 pub mod UntypedEdges
 pub mod EdgeLaws
 pub mod EdgeCount

@@ -56,7 +56,7 @@ member-not s x l h = go (eqb x s) refl h
     go true e h = absurd (false≢true (sym h))
     go false e h = (eqb-false x s e, h)
 
-distinct_more : (l : List ℕ) (s : ℕ) → Distinct l → member s l ≡ false → Distinct (l ++ (s ∷ []))
+pub distinct_more : (l : List ℕ) (s : ℕ) → Distinct l → member s l ≡ false → Distinct (l ++ (s ∷ []))
 unfolding member
 distinct_more [] s d h = (refl, tt)
 distinct_more (x ∷ l) s d h =
@@ -150,7 +150,7 @@ unfolding tabulate member
 leaf_new zero s h = refl
 leaf_new (suc n) s h = member_more s (tabulate n singleton) (singleton n) (leaf_new n s (λ j l. h j (le_trans l (le-suc n)))) (h n (le_refl (suc n)))
 
-leaves_distinct : (n : ℕ) → n ≤ 64 → Distinct (tabulate n singleton)
+pub leaves_distinct : (n : ℕ) → n ≤ 64 → Distinct (tabulate n singleton)
 unfolding tabulate
 leaves_distinct zero h = tt
 leaves_distinct (suc n) h =

@@ -16,6 +16,7 @@ pub mod EstimateOrder
 pub mod EstimateBounds
 pub mod Walk
 pub mod Search
+pub mod TwoPasses
 pub mod LeafView
 pub mod Call
 pub mod Kept
