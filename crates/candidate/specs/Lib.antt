@@ -1,4 +1,3 @@
 pub mod Store
 pub mod Laws
-pub mod Lengths
 pub mod Lent

@@ -1,1 +1,3 @@
 pub mod StandingLaws
+pub mod SetLaws
+pub mod NeighborLaws

@@ -1,18 +1,11 @@
--- What the functions over the edges say of their results. Fields of edges that a function does not read may be any.
-use Rattle.std.specs.Prelude.{◌≡◌, Bool, List, ℕ, length}
-use Rattle.definition.specs.Hypergraph.{neighborhood, connects, has_edge}
+-- The edges of which two lists of sides are lent. The fields that no function of the crate reads are 0.
+use Rattle.std.specs.Prelude.{Bool, List, [], ℕ, length}
+use Rattle.definition.specs.Hypergraph.{Edge, connects}
 use Rattle.definition.specs.EdgeView.{edges_of}
-use Rattle.cost.specs.declared.edges.Edges.{Edges}
+use Rattle.connectivity.specs.declared.EdgeSides.{EdgeSides}
 
--- r: the neighbours of s outside x
-abbrev pub Neighbors : Edges → ℕ → ℕ → ℕ → Type 0
-Neighbors e s x r =
-    (predicate source type : List ℕ) → r ≡ neighborhood (edges_of (length e.left.now) e.left.now e.right.now predicate source type) s x
-
--- r: whether an edge connects a and b
-abbrev pub HasEdge : Edges → ℕ → ℕ → Bool → Type 0
-HasEdge e a b r =
-    (predicate source type : List ℕ) → r ≡ has_edge (edges_of (length e.left.now) e.left.now e.right.now predicate source type) a b
+abbrev pub edges_with : EdgeSides → List Edge
+edges_with e = edges_of (length e.left.now) e.left.now e.right.now [] [] []
 
 -- whether an edge with these sides connects a and b
 abbrev pub sides_connect : ℕ → ℕ → ℕ × ℕ → Bool

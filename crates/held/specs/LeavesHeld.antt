@@ -13,13 +13,13 @@ use Rattle.definition.specs.Hypergraph.{none32}
 use Rattle.definition.specs.Cost.{leaf_estimate}
 use Rattle.definition.specs.Search.{Plan, Entry, Leaf, leaf_plans, leaf_entries, start}
 use Rattle.definition.proofs.MemoLaws.{leaf_plans-length}
+use Rattle.definition.proofs.TwoPassesHeld.{put_column}
 use Rattle.store.specs.declared.DPhyp.{DPhyp}
 use Rattle.store.specs.Counts.{counts}
 use Rattle.store.specs.Estimates as estimates
 use Rattle.candidate.specs.Store.{Lists, Given, store, leaf_written}
 use Rattle.held.specs.Held.{input_for, holding, Roomy}
 use Rattle.candidate.specs.Laws.{lists_eq}
-use Rattle.held.specs.CandidateHeld.{put}
 
 -- these leaves, the first of them number k
 unfoldable pub leaves_written : ℕ → List Leaf → Lists → Lists
@@ -53,10 +53,10 @@ module _ (g : Given) (h : Lists) (room : Roomy g h) where
     where
       plan : {B : Type 0} (f : Plan → B) (xs : List B) (d : B) → g.plan_room ≤ length xs
           → set (column f ps xs) k (f (scan k l)) ≡ column f (ps ++ (scan k l ∷ [])) xs
-      plan {B} f xs d q = ap (λ (n : ℕ). set (column f ps xs) n (f (scan k l))) (sym a) ∙ put f ps (scan k l) xs d (omega arith)
+      plan {B} f xs d q = ap (λ (n : ℕ). set (column f ps xs) n (f (scan k l))) (sym a) ∙ put_column f ps (scan k l) xs d (omega arith)
 
       noted : (f : Entry → ℕ) (xs : List ℕ) → g.memo_room ≤ length xs → set (column f m xs) k (f (entry k)) ≡ column f (m ++ (entry k ∷ [])) xs
-      noted f xs q = ap (λ (n : ℕ). set (column f m xs) n (f (entry k))) (sym b) ∙ put f m (entry k) xs 0 (omega arith)
+      noted f xs q = ap (λ (n : ℕ). set (column f m xs) n (f (entry k))) (sym b) ∙ put_column f m (entry k) xs 0 (omega arith)
 
   from_held : (ls : List Leaf) (ps : List Plan) (m : List Entry) (k : ℕ) → length ps ≡ k → length m ≡ k
       → k + length ls ≤ g.plan_room → k + length ls ≤ g.memo_room

@@ -1,2 +1,2 @@
-// No code: the lent lists hold the state of the definition's search, and each step of the search over them keeps it so.
+// No code: the lent lists hold the state of the definition's search, as it begins and as it ends.
 #![tactic(auto)]

@@ -1,5 +1,5 @@
 -- The leaves one by one, and the search from them: the lists hold the definition's search. Assumes nothing.
-use Rattle.std.specs.Prelude.{◌≡◌, refl, ℕ, zero, suc, ◌+◌, ◌<◌, ◌≤◌, length, get_or, map, None, Result}
+use Rattle.std.specs.Prelude.{◌≡◌, refl, ℕ, zero, suc, ◌+◌, ◌<◌, ◌≤◌, length, get_or, map, Result}
 use Rattle.std.proofs.Math.Path.{sym, ap}
 use Rattle.std.proofs.Common.{ap₂, ◌∙◌, add-one, arith, drop_of_length-le}
 use mathlib.Core.List.{List, [], ◌∷◌}
@@ -9,17 +9,17 @@ use Rattle.cost.specs.declared.Leaf as declared
 use Rattle.cost.specs.View.{leaf_of}
 use Rattle.definition.specs.Cost.{Estimate, leaf_estimate}
 use Rattle.definition.proofs.ListLaws.{length-tabulate}
-use Rattle.definition.specs.Search.{Leaf, Input, search, find}
+use Rattle.definition.specs.Search.{Leaf, Input, start, search, find}
 use Rattle.definition.proofs.StopLaws.{search_stop}
 use Rattle.store.specs.declared.DPhyp.{DPhyp}
-use Rattle.store.specs.Counts.{counts, stop_with, stop_number}
+use Rattle.store.specs.Counts.{stop_with, stop_number}
 use Rattle.candidate.specs.Store.{Given, Lists, Store, store, plan_for, leaf_written}
 use Rattle.held.specs.Held.{input_for, holding}
 use Rattle.held.specs.LeavesHeld.{leaves_written, leaves_held}
-use Rattle.held.specs.SearchHeld.{search_held}
 use Rattle.held.specs.StopHeld.{stop_known}
 use Rattle.held.specs.MemoHeld.{plan_for_lem}
-use Rattle.dphyp.specs.Walks.{store_solve}
+use Rattle.passes.specs.Passes.{Begun, both_passes}
+use Rattle.passes.proofs.PassesHeld.{begins, passes_held}
 use Rattle.definition.specs.LeafView.{leaf_at, leaves_from}
 use Rattle.search.specs.View.{Ready, Ends, ending_number, chosen_of, ending_of}
 use Rattle.search.specs.EndingLaws.{ending_is}
@@ -60,13 +60,23 @@ module _ (g : Given) (h : Lists) (n : ℕ) (ready : Ready g h n) (ls : List Leaf
   abbrev I : Input
   I = input_for g ls limit
 
-  pub search_is : {u : Lists} {p : DPhyp} {st : Store} → u ≡ leaves_written 0 ls h → p ≡ counts n n 0 None
-      → st ≡ store_solve g limit n (store u p) → st ≡ holding h (search I)
-  search_is {u} {p} {st} eu ep es =
-      es ∙ ap₂ (λ (a : Lists) (b : DPhyp). store_solve g limit n (store a b)) eu ep
-      ∙ ap (λ (m : ℕ). store_solve g limit m (store (leaves_written 0 ls h) (counts m m 0 None))) (sym many)
-      ∙ ap (store_solve g limit (length ls)) (leaves_held g h ready.room ls limit (omega (arith, ready.plans)) (omega (arith, ready.memo)))
-      ∙ search_held g ls limit h ready.room ready.sided
+  plans_fit : length ls ≤ g.plan_room
+  plans_fit = omega (arith, ready.plans)
+
+  memo_fits : length ls ≤ g.memo_room
+  memo_fits = omega (arith, ready.memo)
+
+  leaves_are : {u : Lists} → u ≡ leaves_written 0 ls h → u ≡ (holding h (start I)).held
+  leaves_are {u} e = e ∙ ap (λ (s : Store). s.held) (leaves_held g h ready.room ls limit plans_fit memo_fits)
+
+  -- with the leaves written, the lists are what both passes ask
+  pub search_begins : {u : Lists} → u ≡ leaves_written 0 ls h → Begun g u n
+  search_begins {u} e =
+      rw (leaves_are e, ← many) (begins g ls limit h ready.room ready.sided plans_fit memo_fits (omega (arith, ready.leaves)))
+
+  pub search_is : {u : Lists} {st : Store} → u ≡ leaves_written 0 ls h → st ≡ both_passes g limit n u → st ≡ holding h (search I)
+  search_is {u} {st} eu es =
+      es ∙ ap₂ (both_passes g limit) (sym many) (leaves_are eu) ∙ passes_held g ls limit h ready.room ready.sided plans_fit memo_fits
 
   -- the number of what stopped the search is the definition's
   pub stop_is : {u : Lists} {p : DPhyp} → store u p ≡ holding h (search I) → stop_number p.stop ≡ (search I).stop

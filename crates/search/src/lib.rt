@@ -1,20 +1,21 @@
-// The search as a whole: the leaves' plans and memo entries, the walk from them, and how it ended. The stores are as in crate candidate.
+// The search as a whole: the leaves' plans and memo entries, both passes from them, and how it ended. The stores are as in crate candidate.
 #![tactic(auto)]
 
-ghost use Rattle.std.specs.Prelude.{◌≡◌, ◌≤◌, length, map, take};
+ghost use Rattle.std.specs.Prelude.{◌≡◌, ◌<◌, ◌≤◌, length, map, take};
 ghost use Rattle.nodeset.specs.Sets.{all_below};
 ghost use Rattle.definition.specs.Search.{search};
-ghost use Rattle.cost.specs.View.{leaf_of};
+ghost use Rattle.cost.specs.View.{leaf_of, estimate_of};
 ghost use Rattle.store.specs.Counts.{stop_number};
 ghost use Rattle.store.specs.Memo.{spot, kept_of};
-ghost use Rattle.candidate.specs.Store.{store};
+ghost use Rattle.candidate.specs.Store.{store, leaf_written};
 ghost use Rattle.candidate.specs.Lent.{given_of, lists_of, SameLists};
 ghost use Rattle.held.specs.Held.{input_for, holding};
 ghost use Rattle.held.specs.LeavesHeld.{leaves_written};
 ghost use Rattle.search.specs.View.{ending_number, chosen_of, ending_of, unplanned_of, Ready, Ends};
 
-use cost::Leaf;
-use nodeset::{NONE, NodeId, PlanId};
+use candidate::{Candidate, Place};
+use cost::{Estimate, Leaf};
+use nodeset::{LEAF, NONE, NodeId, PlanId};
 use store::{DPhyp, Input, Lists, Stop};
 
 // Why no plan is chosen: none is kept for the set of all leaves, or what stopped the search.
@@ -63,6 +64,31 @@ pub struct Searched {
     pub ending: Ending,
 }
 
+// Writes the plan and the memo entry of leaf k.
+fn write_leaf(l: &mut Lists<'_>, k: NodeId, e: Estimate)
+    requires { k.0 < 64 }
+    ensures same { SameLists l.old l.new }
+    ensures value { lists_of l.new ≡ leaf_written (lists_of l.old) k.0 (estimate_of e) }
+{
+    let at = k.0;
+    let set = nodeset::nodeset_singleton(k);
+    let c = Candidate {
+        set,
+        left: PlanId(at),
+        right: PlanId(at),
+        lead: NONE,
+        kind: LEAF,
+        estimate: e,
+        place: Place {
+            position: at,
+            best: PlanId(at),
+            entries: at + 1,
+        },
+    };
+    places::put(l.mset, at, set);
+    candidate::write(l, at, c);
+}
+
 // Writes the plan and the memo entry of each leaf.
 fn write_leaves(leaves: &[Leaf], l: &mut Lists<'_>)
     requires { length leaves.now ≤ 64 }
@@ -71,7 +97,7 @@ fn write_leaves(leaves: &[Leaf], l: &mut Lists<'_>)
 {
     for (k, leaf) in leaves.iter().enumerate() {
         let e = cost::leaf_estimate(*leaf);
-        emit_csg_cmp::write_leaf(l, NodeId(k as u32), e);
+        write_leaf(l, NodeId(k as u32), e);
     }
 }
 
@@ -97,7 +123,7 @@ pub fn search(g: &Input<'_>, leaves: &[Leaf], l: &mut Lists<'_>) -> Searched
 {
     write_leaves(leaves, l);
     let count = leaves.len() as u32;
-    let counts = dphyp::solve(g, l, count, DPhyp::new(count));
+    let counts = passes::solve(g, l, count);
     let ending = ended(l, count, counts);
     Searched { counts, ending }
 }

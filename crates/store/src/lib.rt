@@ -11,7 +11,7 @@ ghost use Rattle.store.specs.Counts.{counts, visit_of, number_of};
 
 pub use estimates::estimate_at;
 pub use lent::{Input, Lists};
-pub use memo::{is_kept, kept_plan};
+pub use memo::kept_plan;
 pub use sets::find;
 
 // Why the search stopped before its end: a plan was due and the plan store was full, a set was new and the memo was full, or the next

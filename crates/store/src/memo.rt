@@ -1,6 +1,6 @@
 // The memo: a set and its plan at each of its first n places.
 ghost use Rattle.std.specs.Prelude.{◌≡◌, take};
-ghost use Rattle.store.specs.Memo.{spot, kept_of, is_at};
+ghost use Rattle.store.specs.Memo.{spot, kept_of};
 
 use crate::sets;
 use nodeset::PlanId;
@@ -12,12 +12,4 @@ pub fn kept_plan(mset: &[u64], mplan: &[u32], n: u32, s: u64) -> Option<PlanId>
 {
     let i = sets::find(mset, n, s)?;
     Some(PlanId(places::at(mplan, i, 0)))
-}
-
-// Whether the memo keeps a plan for s.
-// kept: as kept_plan.
-pub fn is_kept(mset: &[u64], n: u32, s: u64) -> bool
-    ensures { result ≡ is_at (spot 0 (take n mset.now) s) }
-{
-    sets::find(mset, n, s).is_some()
 }

@@ -1,31 +1,14 @@
-use mathlib.Core.Path.{sym, ◌∙◌}
-use native.Mathlib.Omega.{arith}
-use lib.ListN.{length}
-use Rattle.std.proofs.lemmas.List.{length_push}
-use Rattle.std.proofs.lemmas.Slice.Zip.{zip_turn, zip_end}
-use Rattle.graph.specs.Laws.{nbr_step, nbr_end}
+use Rattle.std.proofs.Common.{sym, ap, ◌∙◌, arith}
+use Rattle.std.proofs.lemmas.Nat.{or_lt}
+use Rattle.std.specs.Int.Bits.{bit_or}
+use Rattle.nodeset.specs.Sets.{difference}
+use Rattle.graph.specs.View.{edges_with}
+use Rattle.graph.proofs.NeighborLaws.{neighborhood_simple}
 use Rattle.graph.proofs.neighborhood.Goals as goal
 
-pub loop-l-preserved : goal.loop-l-preserved
-loop-l-preserved c =
+pub returns-then-graph : goal.returns-then-graph
+returns-then-graph c =
     let a = c.args in
-    let e = a.edges.now in
-    let o = c.loop-l in
-    let i = length o.yielded in
-    let t =
-    zip_turn e.left.now e.right.now o.yielded c.into_iter-l-iterator.result o.l-iterator c.next.new.self c.next.result (cc) (cc)
-    o.yielded_by (c.in-Some.l, c.in-Some.r) c.in-Some.is c.next.ensures.steps in
-    λ p s u.
-    rw (length_push, c.beyond-in-loop-l.ensures, c.beyond.ensures, t.2 0, t.3 0)
-    (nbr_step (length e.left.now) e.left.now e.right.now p s u a.s a.x o.found i t.0 ∙ o.invariant p s u)
-
-pub returns : goal.returns
-returns c =
-    let e = c.args.edges.now in
-    let o = c.loop-l in
-    let t =
-    zip_end e.left.now e.right.now o.yielded c.into_iter-l-iterator.result o.l-iterator c.next.new.self c.next.result (cc) (cc)
-    o.yielded_by c.in-None.is c.next.ensures.steps in
-    λ p s u.
-    sym (nbr_end (length e.left.now) e.left.now e.right.now p s u c.args.s c.args.x o.found (length o.yielded) (omega (arith, t, e.as_long)))
-    ∙ o.invariant p s u
+    let g = a.graph.now in
+    c.difference.ensures ∙ ap (λ z. difference z (bit_or a.s a.x)) c.across.ensures
+    ∙ neighborhood_simple (edges_with g.edges) (sym g.tested ∙ c.if-graph.true) a.s a.x (or_lt 64 a.s a.x (omega arith) (omega arith))

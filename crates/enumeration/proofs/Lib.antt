@@ -1,0 +1,4 @@
+pub mod SubsetPasses
+pub mod SameWalk
+pub mod Laws
+pub mod HeldLaws

@@ -1,0 +1,4 @@
+pub mod Store
+pub mod Lent
+pub mod Walks
+pub mod Held

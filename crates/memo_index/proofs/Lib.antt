@@ -1,0 +1,5 @@
+mod WalkLaws
+pub mod IndexLaws
+mod LookupLaws
+pub mod KeptLaws
+mod Samples

@@ -1,0 +1,2 @@
+pub mod LeafIndexLaws
+pub mod PassesHeld

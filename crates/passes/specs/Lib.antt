@@ -1,0 +1,2 @@
+pub mod LeafSets
+pub mod Passes
