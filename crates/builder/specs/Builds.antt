@@ -1,5 +1,5 @@
 -- What a builder holds, as the definition's build, and what its functions keep of it.
-use Rattle.std.specs.Prelude.{◌≡◌, List, [], ◌∷◌, ◌++◌, reverse, ℕ, ◌+◌, ◌-◌, ◌≤◌, ◌<◌, length, take, drop, bit_or, Option, Some, None}
+use Rattle.std.specs.Prelude.{◌≡◌, List, [], ◌∷◌, ◌++◌, reverse, ℕ, ◌+◌, ◌-◌, ◌≤◌, ◌<◌, length, drop, replicate, bit_or, Option, Some, None}
 use Rattle.nodeset.specs.Sets.{singleton}
 use Rattle.nodeset.specs.declared.PredicateId.{PredicateId}
 use Rattle.definition.specs.Lists.{column}
@@ -10,6 +10,7 @@ use Rattle.sheet.specs.declared.Range.{Range}
 use Rattle.ses.specs.View.{leaves_of, Fits}
 use Rattle.tes.specs.Views.{joins_of}
 use Rattle.tes.specs.declared.JoinRecord as record_lem
+use Rattle.copy_vec.specs.CopyVec.{CopyVec, pushed, shortened}
 use Rattle.builder.specs.declared.EdgeLists as declared
 use Rattle.builder.specs.declared.HypergraphBuilder.{HypergraphBuilder}
 
@@ -72,8 +73,18 @@ pub record Added (m n : ℕ) (h g : EdgeLists) : Type 0 where
 
 -- ---- the builder
 
+-- no element in 64 places
+abbrev empty_vec : {T : Type 0} → T → CopyVec T
+empty_vec blank = record { items = []; spare = replicate 64 blank }
+
 abbrev pub empty : HypergraphBuilder
-empty = record { edges = 0; leaves = record { items = [] }; joins = record { items = [] }; pile = record { items = [] } }
+empty =
+    record {
+      edges = 0;
+      leaves = empty_vec (record { first = 0; count = 0 });
+      joins = empty_vec (record { join_type = 0; left_nodes = 0; right_nodes = 0; tes_left = 0; tes_right = 0 });
+      pile = empty_vec 0;
+    }
 
 abbrev pub more_edges : ℕ → HypergraphBuilder → HypergraphBuilder
 more_edges m b = record { edges = b.edges + m; leaves = b.leaves; joins = b.joins; pile = b.pile }
@@ -84,8 +95,8 @@ one_join j b =
     record {
       edges = b.edges;
       leaves = b.leaves;
-      joins = record { items = b.joins.items ++ (j ∷ []) };
-      pile = record { items = take (length b.pile.items - 2) b.pile.items ++ (bit_or j.left_nodes j.right_nodes ∷ []) };
+      joins = pushed j b.joins;
+      pile = pushed (bit_or j.left_nodes j.right_nodes) (shortened (length b.pile.items - 2) b.pile);
     }
 
 -- a leaf more, in the builder and on the pile
@@ -93,9 +104,9 @@ abbrev pub one_leaf : Range → HypergraphBuilder → HypergraphBuilder
 one_leaf p b =
     record {
       edges = b.edges;
-      leaves = record { items = b.leaves.items ++ (p ∷ []) };
+      leaves = pushed p b.leaves;
       joins = b.joins;
-      pile = record { items = b.pile.items ++ (singleton (length b.leaves.items) ∷ []) };
+      pile = pushed (singleton (length b.leaves.items)) b.pile;
     }
 
 -- ---- what they say together

@@ -9,7 +9,7 @@ ghost use Rattle.tes.specs.Views.{sides_of, join_of};
 ghost use Rattle.builder.specs.Builds.{empty, edge_lists_of, SameEdgeLists, edges_in, predicate_number, build_of, ForAllLists};
 ghost use Rattle.builder.specs.Builds.{with_leaf, with_record, more_edges, one_join, one_leaf, Longer, Added, RoomFor, LeavesFit};
 
-use arrayvec::ArrayVec;
+use copy_vec::CopyVec;
 use nodeset::{NONE, NodeId, PredicateId};
 use sheet::Range;
 use tes::{JoinRecord, Sides};
@@ -25,14 +25,39 @@ pub struct EdgeLists<'a> {
     pub kind: &'a mut [u32],
 }
 
+// Edge e of the lists: what add_edge writes. It asks for no builder, whose vectors hold at most 64 leaves, joins and things on the pile.
+// kept: any number was taken as a type, and is written as it is: an enum would ask more of callers. SameEdgeLists and Added speak of before and
+// after, which no fact of a type does.
+#[tactic(auto, using(crate::specs::Laws::edges_more))]
+pub fn write_edge(
+    lists: &mut EdgeLists<'_>,
+    e: usize,
+    x: Sides,
+    p: Option<PredicateId>,
+    k: u32,
+    t: u32,
+)
+    requires { Longer (e + 1) (edge_lists_of lists.old) }
+    ensures same { SameEdgeLists lists.old lists.new }
+    ensures edges { edges_in (e + 1) (edge_lists_of lists.new)
+        ≡ edges_in e (edge_lists_of lists.old) ++ (edge_of (sides_of x) (predicate_number p) k t ∷ []) }
+    ensures rest { Added e (e + 1) (edge_lists_of lists.old) (edge_lists_of lists.new) }
+{
+    lists.left[e] = x.left;
+    lists.right[e] = x.right;
+    lists.predicate[e] = p.map_or(NONE, |p| p.0);
+    lists.source[e] = k;
+    lists.kind[e] = t;
+}
+
 // How many edges there are, the range of columns of each leaf, the joins so far, and the pile, its top last, each thing on it as its set of
 // leaves.
-#[derive(Clone, Drop)]
+#[derive(Clone, Copy, Drop)]
 pub struct HypergraphBuilder {
     pub edges: usize,
-    pub leaves: ArrayVec<Range, 64>,
-    pub joins: ArrayVec<JoinRecord, 64>,
-    pub pile: ArrayVec<u64, 64>,
+    pub leaves: CopyVec<Range, 64>,
+    pub joins: CopyVec<JoinRecord, 64>,
+    pub pile: CopyVec<u64, 64>,
 }
 
 impl HypergraphBuilder {
@@ -44,16 +69,13 @@ impl HypergraphBuilder {
     {
         Self {
             edges: 0,
-            leaves: ArrayVec::new(),
-            joins: ArrayVec::new(),
-            pile: ArrayVec::new(),
+            leaves: CopyVec::new(Range::default()),
+            joins: CopyVec::new(JoinRecord::default()),
+            pile: CopyVec::new(0),
         }
     }
 
     // One edge more: its sides, its predicate, its source item and its type.
-    // kept: any number was taken as a type, and is written as it is: an enum would ask more of callers. SameEdgeLists and Added speak of before and
-    // after, which no fact of a type does.
-    #[tactic(auto, using(crate::specs::Laws::edges_more))]
     pub fn add_edge(
         &mut self,
         lists: &mut EdgeLists<'_>,
@@ -70,11 +92,7 @@ impl HypergraphBuilder {
         ensures rest { Added self.old.edges (self.old.edges + 1) (edge_lists_of lists.old) (edge_lists_of lists.new) }
     {
         let e = self.edges;
-        lists.left[e] = x.left;
-        lists.right[e] = x.right;
-        lists.predicate[e] = p.map_or(NONE, |p| p.0);
-        lists.source[e] = k;
-        lists.kind[e] = t;
+        write_edge(lists, e, x, p, k, t);
         self.edges = e + 1;
     }
 

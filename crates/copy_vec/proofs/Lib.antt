@@ -1,0 +1,2 @@
+-- Laws.
+mod Shortened
