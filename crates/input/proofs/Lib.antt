@@ -1,2 +1,3 @@
 pub mod FromFn
 pub mod StandingLaws
+pub mod FilledSoFar

@@ -14,30 +14,31 @@ use nodeset::{LEAF, PredicateId};
 use sheet::Sheet;
 
 // The kind of each item, and 0 behind them.
+// kept: over the items alone; from_fn goes over all 127 places, in every call.
 // kept: beside selectivities, since one function for both would take the reader and what it gives as parameters.
 pub fn kinds(sheet: &Sheet<'_>) -> [u32; 127]
     ensures size { length result ≡ 127 }
     ensures kinds { take sheet.now.sections.items.count result ≡ map (λ (i : Item). i.kind) (question_of sheet.now.bytes.now).items }
 {
-    let n = sheet.sections.items.count;
-    std::array::from_fn(|i| if i < n { sheet.item(i).kind } else { 0 })
+    let mut kinds = [0; 127];
+    for i in 0..sheet.sections.items.count {
+        kinds[i] = sheet.item(i).kind;
+    }
+    kinds
 }
 
 // The selectivity of each predicate, and 0 behind them.
-// kept: beside kinds, as said there.
+// kept: over the predicates alone, beside kinds, as said there.
 pub fn selectivities(sheet: &Sheet<'_>) -> [u32; 256]
     ensures size { length result ≡ 256 }
     ensures selectivities { take sheet.now.sections.predicates.count result
         ≡ map (λ (p : Predicate). p.selectivity) (question_of sheet.now.bytes.now).predicates }
 {
-    let n = sheet.sections.predicates.count;
-    std::array::from_fn(|i| {
-        if i < n {
-            sheet.predicate(PredicateId(i as u32)).selectivity
-        } else {
-            0
-        }
-    })
+    let mut selectivities = [0; 256];
+    for i in 0..sheet.sections.predicates.count {
+        selectivities[i] = sheet.predicate(PredicateId(i as u32)).selectivity;
+    }
+    selectivities
 }
 
 // The leaves, in the items' order.
