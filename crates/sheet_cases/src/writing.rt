@@ -1,17 +1,17 @@
 // Sheets as the cases write them, and what the check answers for each.
 use std::io;
 
-// A sheet while it is written: its words come one after the other, and the bytes behind them are 0.
+// A sheet of at most N bytes while it is written: its words come one after the other, and the bytes behind them are 0.
 #[derive(Drop)]
-struct Draft {
-    bytes: [u8; 65536],
+struct Draft<const N: usize> {
+    bytes: [u8; N],
     at: usize,
 }
 
-impl Draft {
-    fn new() -> Draft {
+impl<const N: usize> Draft<N> {
+    fn new() -> Self {
         Draft {
-            bytes: [0; 65536],
+            bytes: [0; N],
             at: 0,
         }
     }
@@ -20,7 +20,7 @@ impl Draft {
     fn words(&mut self, words: &[u32]) {
         for w in words {
             for b in w.to_le_bytes() {
-                if self.at < 65536 {
+                if self.at < N {
                     self.bytes[self.at] = b;
                     self.at += 1;
                 }
@@ -54,7 +54,7 @@ impl Draft {
     // Checks the first bytes and prints the answer under a name, 0 for an accepted sheet.
     // kept: the answer's number is what is printed.
     fn show(&self, rt: &impl Print, name: &[u8], length: usize) -> io::Result<()> {
-        if 65536 < length {
+        if N < length {
             return Ok(());
         }
         let answer = sheet_check::answer_number(sheet_check::check(&self.bytes[..length]));
@@ -64,22 +64,21 @@ impl Draft {
 }
 
 // Leaves, then cross products; predicates and columns of zeros.
-fn uniform(leaves: u16, joins: u16, predicates: u16, columns: u16) -> Draft {
+// kept: written into a draft that is lent, since one that is returned is copied, all 64 KiB of it.
+fn uniform(draft: &mut Draft<65536>, leaves: u16, joins: u16, predicates: u16, columns: u16) {
     let all = u32::from(leaves) + u32::from(joins);
     let predicates = u32::from(predicates);
     let columns = u32::from(columns);
     let second = 24 + 16 * all;
     let third = second + 12 * predicates;
-    let mut draft = Draft::new();
     draft.words(&[all, 24, predicates, second, columns, third]);
     draft.items(leaves, 9);
     draft.items(joins, 8);
     draft.zeros(3 * predicates + columns);
-    draft
 }
 
 // Two leaves and their Inner join, one predicate, four columns: 100 bytes.
-fn joined() -> Draft {
+fn joined() -> Draft<128> {
     let mut draft = Draft::new();
     draft.words(&[3, 24, 1, 72, 4, 84]);
     draft.words(&[9, 10, 0, 2]);
@@ -112,7 +111,11 @@ pub fn made(
     columns: u16,
     words: &[(usize, u32)],
 ) -> io::Result<()> {
-    let mut draft = uniform(leaves, joins, predicates, columns);
+    let mut draft = Draft {
+        bytes: [0; 65536],
+        at: 0,
+    };
+    uniform(&mut draft, leaves, joins, predicates, columns);
     let length = draft.at;
     draft.replace(words);
     draft.show(rt, name, length)
