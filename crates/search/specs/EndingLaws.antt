@@ -1,5 +1,5 @@
 -- The ending that a stop and a memo lookup give. Assumes nothing.
-use Rattle.std.specs.Prelude.{◌≡◌, refl, ℕ, Option, None, Some, Err}
+use Rattle.std.specs.Prelude.{◌≡◌, ◌≢◌, refl, ℕ, Option, None, Some, Err}
 use Rattle.std.proofs.Math.Option as math
 use Rattle.std.proofs.Math.Option.{none, some}
 use Rattle.nodeset.specs.declared.PlanId.{PlanId}
@@ -23,8 +23,13 @@ ends_memo s k e = rw e
 pub ends_visits : (s : Option declared.Stop) (k : Option PlanId) → s ≡ Some stop.VisitsSpent → Err (Stopped stop.VisitsSpent) ≡ ending_of s k
 ends_visits s k e = rw e
 
-pub ends_so : (s : Option declared.Stop) (k : Option PlanId) → s ≡ None → ending_for k ≡ ending_of s k
-ends_so s k e = rw e
+pub ends_so : (s : Option declared.Stop) (k : Option PlanId)
+    → s ≢ Some stop.PlansFull → s ≢ Some stop.MemoFull → s ≢ Some stop.VisitsSpent → ending_for k ≡ ending_of s k
+ends_so None k p m v = refl
+ends_so (Some (stop.Other n)) k p m v = refl
+ends_so (Some stop.PlansFull) k p m v = absurd (p refl)
+ends_so (Some stop.MemoFull) k p m v = absurd (m refl)
+ends_so (Some stop.VisitsSpent) k p m v = absurd (v refl)
 
 -- ---- the ending is the definition's
 

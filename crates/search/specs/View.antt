@@ -29,6 +29,7 @@ ending_number (Err NoPlan) = no_plan
 ending_number (Err (Stopped stop.PlansFull)) = plans_full
 ending_number (Err (Stopped stop.MemoFull)) = memo_full
 ending_number (Err (Stopped stop.VisitsSpent)) = visits_spent
+ending_number (Err (Stopped (stop.Other _))) = none32
 
 abbrev pub chosen_of : Result PlanId Unplanned → ℕ
 chosen_of (Ok p) = p.0
@@ -50,5 +51,8 @@ unplanned_of s = Stopped s
 
 -- from what stopped the search, if anything did, and that plan
 abbrev pub ending_of : Option declared.Stop → Option PlanId → Result PlanId Unplanned
-ending_of (Some s) k = Err (unplanned_of s)
 ending_of None k = ending_for k
+ending_of (Some (stop.Other n)) k = ending_for k
+ending_of (Some stop.PlansFull) k = Err (unplanned_of stop.PlansFull)
+ending_of (Some stop.MemoFull) k = Err (unplanned_of stop.MemoFull)
+ending_of (Some stop.VisitsSpent) k = Err (unplanned_of stop.VisitsSpent)

@@ -37,7 +37,7 @@ impl From<Stop> for Unplanned {
 // How a search ended: the chosen plan, or why there is none.
 pub type Ending = Result<PlanId, Unplanned>;
 
-// Document 01's number for it.
+// Document 01's number for it. A stop that no search has is no answer, and has the number that means none.
 // kept: a match, since a stop has a number of its own.
 pub fn number(ending: Ending) -> u32
     ensures { result ≡ ending_number ending }
@@ -45,6 +45,7 @@ pub fn number(ending: Ending) -> u32
     match ending {
         Ok(_) => 0,
         Err(Unplanned::NoPlan) => 15,
+        Err(Unplanned::Stopped(Stop::Other(_))) => NONE,
         Err(Unplanned::Stopped(stop)) => stop.number(),
     }
 }
@@ -107,8 +108,10 @@ fn ended(l: &Lists<'_>, leaves: u32, p: DPhyp) -> Ending
 {
     let all = nodeset::all_nodes_mask(leaves);
     match p.stop {
+        None | Some(Stop::Other(_)) => store::kept_plan(l.mset, l.mplan, p.memo, all).ok_or(
+            Unplanned::NoPlan,
+        ),
         Some(stop) => Err(Unplanned::from(stop)),
-        None => store::kept_plan(l.mset, l.mplan, p.memo, all).ok_or(Unplanned::NoPlan),
     }
 }
 

@@ -15,12 +15,13 @@ pub use memo::kept_plan;
 pub use sets::find;
 
 // Why the search stopped before its end: a plan was due and the plan store was full, a set was new and the memo was full, or the next
-// visit would pass the limit. The numbers are the answers' own.
+// visit would pass the limit; or by another number, with which no function here stops it and which a caller's counts may hold all the same.
 #[derive(Clone, Copy, Debug, PartialEq, Eq)]
 pub enum Stop {
-    PlansFull = 12,
-    MemoFull = 13,
-    VisitsSpent = 14,
+    PlansFull,
+    MemoFull,
+    VisitsSpent,
+    Other(u32),
 }
 
 impl Stop {
@@ -29,7 +30,12 @@ impl Stop {
     pub fn number(self) -> u32
         ensures { result ≡ number_of self }
     {
-        self as u32
+        match self {
+            Stop::PlansFull => 12,
+            Stop::MemoFull => 13,
+            Stop::VisitsSpent => 14,
+            Stop::Other(n) => n,
+        }
     }
 }
 
