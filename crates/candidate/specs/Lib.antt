@@ -1,3 +1,4 @@
 pub mod Store
 pub mod Laws
+pub mod Lengths
 pub mod Lent

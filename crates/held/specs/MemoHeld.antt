@@ -1,12 +1,12 @@
--- The memo in two lists and the memo as a list of entries: lookup. Assumes nothing.
-use Rattle.std.specs.Prelude.{◌≡◌, refl, List, [], ◌∷◌, ◌++◌, map, Bool, true, false, ℕ, suc, ◌+◌, ◌<◌, length, get_or, take, eqb}
-use Rattle.std.proofs.Common.{sym, ap, ◌∙◌, arith, take_at}
+-- The memo in two lists and the memo as a list of entries: lookup and replacement. Assumes nothing.
+use Rattle.std.specs.Prelude.{◌≡◌, refl, List, [], ◌∷◌, ◌++◌, map, Bool, true, false, ℕ, suc, ◌+◌, ◌<◌, length, get_or, set, take, eqb}
+use Rattle.std.proofs.Common.{sym, ap, ◌∙◌, arith, take_at, eqb-true}
 use Rattle.std.specs.Prelude as prelude
 use Rattle.std.specs.Prelude.{None, Some}
 use Rattle.std.proofs.Math.Option.{Option, none, some}
 use Rattle.std.proofs.lemmas.List.{length-map}
 use Rattle.std.proofs.Math.ListN.{get_or-append}
-use Rattle.definition.specs.Search.{Entry, find}
+use Rattle.definition.specs.Search.{Entry, find, replace}
 use Rattle.nodeset.specs.declared.PlanId.{PlanId}
 use Rattle.store.specs.Memo.{spot, kept_of, plan_id}
 
@@ -17,11 +17,14 @@ abbrev pub plans : List Entry → List ℕ
 plans m = map (λ (e : Entry). e.plan) m
 
 -- s is at place j
-record Seated (m : List Entry) (s j : ℕ) : Type 0 where
-  inside : j < length m
-  found : find m s ≡ some (get_or (plans m) j 0)
+pub record Seated (m : List Entry) (s j : ℕ) : Type 0 where
+  pub inside : j < length m
+  pub found : find m s ≡ some (get_or (plans m) j 0)
+  pub has : get_or (sets m) j 0 ≡ s
+  pub same_sets : (n : ℕ) → sets (replace m s n) ≡ sets m
+  pub new_plans : (n : ℕ) → plans (replace m s n) ≡ set (plans m) j n
 
-unseated : (i : ℕ) (m : List Entry) (s : ℕ) → spot i (sets m) s ≡ None → find m s ≡ none
+pub unseated : (i : ℕ) (m : List Entry) (s : ℕ) → spot i (sets m) s ≡ None → find m s ≡ none
 unfolding spot find
 unseated i [] s e = refl
 unseated i (x ∷ m) s e = go (eqb x.set s) e (unseated (suc i) m s)
@@ -32,8 +35,8 @@ unseated i (x ∷ m) s e = go (eqb x.set s) e (unseated (suc i) m s)
     go true e f = let z : ◌≡◌ {A = ℕ} 0 1 = cc in absurd (omega arith)
     go false e f = f e
 
-seated : (i : ℕ) (m : List Entry) (s k : ℕ) → spot i (sets m) s ≡ Some k → (j : ℕ) × (k ≡ i + j) × Seated m s j
-unfolding spot find
+pub seated : (i : ℕ) (m : List Entry) (s k : ℕ) → spot i (sets m) s ≡ Some k → (j : ℕ) × (k ≡ i + j) × Seated m s j
+unfolding spot find replace
 seated i [] s k e = let z : ◌≡◌ {A = ℕ} 0 1 = cc in absurd (omega arith)
 seated i (x ∷ m) s k e = go (eqb x.set s) refl e (seated (suc i) m s k)
   where
@@ -41,9 +44,29 @@ seated i (x ∷ m) s k e = go (eqb x.set s) refl e (seated (suc i) m s k)
         → (spot (suc i) (sets m) s ≡ Some k → (j : ℕ) × (k ≡ suc i + j) × Seated m s j) → (j : ℕ) × (k ≡ i + j) × Seated (x ∷ m) s j
     go true q e f =
         let z : i ≡ k = cc in
-        (0, omega arith, record { inside = omega arith; found = rw (q, find) })
+        let is : x.set ≡ s = eqb-true _ _ q in (
+          0,
+          omega arith,
+          record {
+            inside = omega arith;
+            found = rw (q, find);
+            has = is;
+            same_sets = λ n. rw (q, replace) (ap (λ (y : ℕ). y ∷ sets m) (sym is));
+            new_plans = λ n. rw (q, replace);
+          },
+        )
     go false q e f =
-        let r = f e in (suc r.0, omega (arith, r.1), record { inside = omega (arith, r.2.inside); found = rw (q, find) r.2.found })
+        let r = f e in (
+          suc r.0,
+          omega (arith, r.1),
+          record {
+            inside = omega (arith, r.2.inside);
+            found = rw (q, find) r.2.found;
+            has = r.2.has;
+            same_sets = λ n. rw (q, replace) (ap (λ (t : List ℕ). x.set ∷ t) (r.2.same_sets n));
+            new_plans = λ n. rw (q, replace) (ap (λ (t : List ℕ). x.plan ∷ t) (r.2.new_plans n));
+          },
+        )
 
 abbrev pub to_kept : Option ℕ → prelude.Option PlanId
 to_kept none = None

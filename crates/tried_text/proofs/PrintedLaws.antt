@@ -119,7 +119,7 @@ text_bound r n pset pleft pright a few v =
     )
 
 -- the lists that the call is lent
-abbrev fresh : Float → Lent
+abbrev pub fresh : Float → Lent
 fresh z = record { edges = edges_filled 256 0 0; plans = lists_filled 1088 512 0 0 z }
 
 pub fresh_lent : {e : EdgeLists} {l : Lists} {z : Float} → e ≡ edges_filled 256 0 0 → l ≡ lists_filled 1088 512 0 0 z
