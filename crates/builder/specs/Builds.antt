@@ -75,7 +75,7 @@ pub record Added (m n : ℕ) (h g : EdgeLists) : Type 0 where
 
 -- no element in 64 places
 abbrev empty_vec : {T : Type 0} → T → CopyVec T
-empty_vec blank = record { items = []; spare = replicate 64 blank }
+empty_vec blank = record { items = []; spare = replicate 64 blank; beyond = 0 }
 
 abbrev pub empty : HypergraphBuilder
 empty =

@@ -6,6 +6,7 @@ ghost use Rattle.std.specs.Prelude.{◌≡◌, List, [], ◌∷◌, ◌++◌, �
 ghost use Rattle.definition.specs.Edges.{edge_of};
 ghost use Rattle.ses.specs.View.{Fit, columns_at};
 ghost use Rattle.tes.specs.Views.{sides_of, join_of};
+ghost use Rattle.copy_vec.specs.CopyVec.{count_of};
 ghost use Rattle.builder.specs.Builds.{empty, edge_lists_of, SameEdgeLists, edges_in, predicate_number, build_of, ForAllLists};
 ghost use Rattle.builder.specs.Builds.{with_leaf, with_record, more_edges, one_join, one_leaf, Longer, Added, RoomFor, LeavesFit};
 
@@ -25,7 +26,7 @@ pub struct EdgeLists<'a> {
     pub kind: &'a mut [u32],
 }
 
-// Edge e of the lists: what add_edge writes. It asks for no builder, whose vectors hold at most 64 leaves, joins and things on the pile.
+// Edge e of the lists, for one who keeps no builder: what add_edge writes.
 // kept: any number was taken as a type, and is written as it is: an enum would ask more of callers. SameEdgeLists and Added speak of before and
 // after, which no fact of a type does.
 #[tactic(auto, using(crate::specs::Laws::edges_more))]
@@ -51,7 +52,7 @@ pub fn write_edge(
 }
 
 // How many edges there are, the range of columns of each leaf, the joins so far, and the pile, its top last, each thing on it as its set of
-// leaves.
+// leaves. A builder may count more of these than the 64 places that it has for each (CopyVec::set_count): an edge is added to such a one too.
 #[derive(Clone, Copy, Drop)]
 pub struct HypergraphBuilder {
     pub edges: usize,
@@ -115,6 +116,8 @@ impl HypergraphBuilder {
     pub fn add_join(&mut self, j: JoinRecord)
         requires { RoomFor self.old }
         ensures counts { self.new ≡ one_join j self.old }
+        ensures tally { (count_of self.new.joins ≡ count_of self.old.joins + 1)
+            × ((count_of self.old.pile ≤ 64) → count_of self.new.pile ≡ count_of self.old.pile - 2 + 1) }
         ensures built { ForAllLists (λ sheet e. build_of sheet self.new e ≡ with_record (join_of j) (build_of sheet self.old e)) }
         ensures leaves { (sheet : List ℕ) → LeavesFit sheet self.old → LeavesFit sheet self.new }
     {
@@ -128,6 +131,7 @@ impl HypergraphBuilder {
     pub fn add_leaf(&mut self, p: Range)
         requires { (length self.old.leaves.items < 64) × (length self.old.pile.items < 64) }
         ensures counts { self.new ≡ one_leaf p self.old }
+        ensures tally { (count_of self.new.leaves ≡ count_of self.old.leaves + 1) × (count_of self.new.pile ≡ count_of self.old.pile + 1) }
         ensures built { ForAllLists (λ sheet e. build_of sheet self.new e
             ≡ with_leaf (length self.old.leaves.items) (columns_at sheet p.first p.count) (build_of sheet self.old e)) }
         ensures leaves { (sheet : List ℕ) → LeavesFit sheet self.old → Fit sheet p.first p.count → LeavesFit sheet self.new }

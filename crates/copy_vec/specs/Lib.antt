@@ -1,2 +1,4 @@
 -- Definitions.
 pub mod CopyVec
+-- Laws.
+pub mod Laws

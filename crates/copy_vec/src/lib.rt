@@ -1,15 +1,16 @@
-// A vector of at most CAP elements, which lie in the value itself and are copied with it: what the kit's ArrayVec is not.
+// A vector of at most CAP elements, which lie in the value itself and are copied with it: what the kit's ArrayVec is not. Its count may be greater
+// than CAP: then all CAP places hold elements, and what it counts beyond them has no place.
 #![tactic(auto)]
 
 mod cells;
 
-ghost use Rattle.std.specs.Prelude.{◌≡◌, [], ◌<◌, ◌≤◌, length, replicate};
-ghost use Rattle.copy_vec.specs.CopyVec.{pushed, shortened};
+ghost use Rattle.std.specs.Prelude.{◌≡◌, [], ◌+◌, ◌<◌, ◌≤◌, length, min, replicate};
+ghost use Rattle.copy_vec.specs.CopyVec.{count_of, counted, pushed, shortened};
 
 use cells::Cells;
 use std::marker::Model;
 
-// The first len places of the array count.
+// The first len places of the array count, or all where it has fewer.
 #[derive(Clone, Copy, Drop)]
 pub struct CopyVec<T, const CAP: usize> {
     cells: Cells<T, CAP>,
@@ -17,21 +18,22 @@ pub struct CopyVec<T, const CAP: usize> {
 }
 
 impl<T, const CAP: usize> Model for CopyVec<T, CAP> {
-    ghost use Rattle.std.specs.Prelude.{◌≡◌, ◌≤◌, ◌++◌, length, take, drop};
-    ghost use Rattle.std.proofs.Common.{arith, take-append-drop, length-take-le};
+    ghost use Rattle.std.specs.Prelude.{◌≡◌, ◌+◌, ◌-◌, ◌++◌, length, take, drop};
+    ghost use Rattle.std.proofs.Common.{take-append-drop};
     ghost use Rattle.copy_vec.specs.CopyVec.{CopyVec as Items};
+    ghost use Rattle.copy_vec.specs.Laws.{parts_counted};
 
     ghost Value = { Items T };
 
-    ghost view = { λ v. record { items = take v.len v.cells.xs; spare = drop v.len v.cells.xs } };
+    ghost view = { λ v. record { items = take v.len v.cells.xs; spare = drop v.len v.cells.xs; beyond = v.len - CAP } };
 
-    ghost invariant = { λ v. (v.len ≤ CAP) × (length v.cells.xs ≡ CAP) };
+    ghost invariant = { λ v. length v.cells.xs ≡ CAP };
 
-    ghost inverse = { λ v. record { cells = record { xs = v.items ++ v.spare }; len = length v.items } };
+    ghost inverse = { λ v. record { cells = record { xs = v.items ++ v.spare }; len = length v.items + v.beyond } };
 
     ghost inverse_ok = { λ v h i. record {
       cells = record { xs = take-append-drop v.len v.cells.xs i };
-      len = length-take-le v.len v.cells.xs (omega (arith, h.0, h.1)) i;
+      len = parts_counted v.len v.cells.xs h i;
     } };
 }
 
@@ -40,6 +42,7 @@ impl<T: Copy, const CAP: usize> CopyVec<T, CAP> {
     pub fn new(blank: T) -> Self
         ensures items { result.items ≡ [] }
         ensures spare { result.spare ≡ replicate CAP blank }
+        ensures beyond { result.beyond ≡ 0 }
     {
         CopyVec {
             cells: Cells { xs: [blank; CAP] },
@@ -47,12 +50,29 @@ impl<T: Copy, const CAP: usize> CopyVec<T, CAP> {
         }
     }
 
+    // The count: how many elements there are, and how many are counted beyond them, which is none unless the count is greater than CAP.
+    pub fn count(&self) -> usize
+        ensures value { result ≡ count_of self.now }
+        ensures elements { length self.now.items ≡ min result CAP }
+    {
+        self.len() + self.len.saturating_sub(CAP)
+    }
+
+    // Counts n of the places, and what is more than they are beyond them. What the places hold stays.
+    pub fn set_count(&mut self, n: usize)
+        ensures counted { self.new ≡ counted n self.old }
+        ensures elements { length self.new.items ≡ min n CAP }
+    {
+        self.len = n;
+    }
+
     // How many elements there are.
     pub fn len(&self) -> usize
         ensures value { result ≡ length self.now.items }
         ensures fits { result ≤ CAP }
+        ensures count { result ≡ min (count_of self.now) CAP }
     {
-        self.as_slice().len()
+        self.len.min(CAP)
     }
 
     // The elements.
@@ -60,24 +80,28 @@ impl<T: Copy, const CAP: usize> CopyVec<T, CAP> {
         ensures value { result.now ≡ self.now.items }
         ensures fits { length result.now ≤ CAP }
     {
-        &self.cells.xs[..self.len]
+        let n = self.len();
+        &self.cells.xs[..n]
     }
 
     // One element more. There must be room.
     pub fn push(&mut self, element: T)
         requires { length self.old.items < CAP }
-        ensures { self.new ≡ pushed element self.old }
+        ensures pushed { self.new ≡ pushed element self.old }
+        ensures count { count_of self.new ≡ count_of self.old + 1 }
     {
         let len = self.len;
         self.cells.xs[len] = element;
         self.len = len + 1;
     }
 
-    // The first len elements alone.
+    // The first len elements alone. Where that is all of them, nothing changes.
     pub fn truncate(&mut self, len: usize)
         requires { len ≤ length self.old.items }
         ensures { self.new ≡ shortened len self.old }
     {
-        self.len = len;
+        if len < self.len() {
+            self.len = len;
+        }
     }
 }
