@@ -52,7 +52,7 @@ pub fn write_edge(
 }
 
 // How many edges there are, the range of columns of each leaf, the joins so far, and the pile, its top last, each thing on it as its set of
-// leaves. A builder may count more of these than the 64 places that it has for each (CopyVec::set_count): an edge is added to such a one too.
+// leaves. It may count more leaves, joins or things on the pile than the 64 places that it has for each (CopyVec::set_count).
 #[derive(Clone, Copy, Drop)]
 pub struct HypergraphBuilder {
     pub edges: usize,

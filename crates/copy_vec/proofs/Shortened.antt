@@ -1,4 +1,4 @@
--- A vector whose count falls, as what a contract sees of it. Assumes nothing.
+-- A vector cut to its first elements, as what a contract sees of it. Assumes nothing.
 use Rattle.std.specs.Prelude.{◌≡◌, refl, ℕ, List, ◌++◌, ◌-◌, ◌<◌, length, take, drop}
 use Rattle.std.proofs.Common.{sym, ◌∙◌, arith, take-append-drop, lt-ltb, le-ltb}
 use Rattle.std.proofs.Math.Path.{ap}

@@ -11,11 +11,11 @@ module _ {T : Type 0} where
   abbrev pub count_of : CopyVec T → ℕ
   count_of v = length v.items + v.beyond
 
-  -- of the same places the first n count, or all, and what is more is beyond them
+  -- of the same places the first n count, or all where they are fewer, and the others of n are beyond them
   abbrev pub counted : ℕ → CopyVec T → CopyVec T
   counted n v = let places = v.items ++ v.spare in record { items = take n places; spare = drop n places; beyond = n - length places }
 
-  -- one element more, in the first place behind them
+  -- one element more, in the first place behind them; where there is such a place, none is counted beyond the places
   abbrev pub pushed : T → CopyVec T → CopyVec T
   pushed x v = record { items = v.items ++ (x ∷ []); spare = drop 1 v.spare; beyond = 0 }
 

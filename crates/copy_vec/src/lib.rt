@@ -58,10 +58,11 @@ impl<T: Copy, const CAP: usize> CopyVec<T, CAP> {
         self.len() + self.len.saturating_sub(CAP)
     }
 
-    // Counts n of the places, and what is more than they are beyond them. What the places hold stays.
+    // Counts n: the first n places, or all where they are fewer, and the others of n beyond them. What the places hold stays.
     pub fn set_count(&mut self, n: usize)
         ensures counted { self.new ≡ counted n self.old }
         ensures elements { length self.new.items ≡ min n CAP }
+        ensures count { count_of self.new ≡ n }
     {
         self.len = n;
     }
