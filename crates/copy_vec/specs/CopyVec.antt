@@ -8,6 +8,7 @@ pub record CopyVec (T : Type 0) : Type 0 where
   pub beyond : ℕ
 
 module _ {T : Type 0} where
+  -- its count: the elements, and what is counted beyond the places
   abbrev pub count_of : CopyVec T → ℕ
   count_of v = length v.items + v.beyond
 
@@ -19,7 +20,7 @@ module _ {T : Type 0} where
   abbrev pub pushed : T → CopyVec T → CopyVec T
   pushed x v = record { items = v.items ++ (x ∷ []); spare = drop 1 v.spare; beyond = 0 }
 
-  -- the first n elements alone; the others stay in their places
+  -- the first n elements alone; the others stay in their places, and where any is left out, none is counted beyond the places
   abbrev pub shortened : ℕ → CopyVec T → CopyVec T
   shortened n v =
       record {
